@@ -1,0 +1,60 @@
+-- A signed local holds bits, so that a value z stands in a need as `toZ w (ofZ w z)`. These laws take the bits off.
+-- Assumes nothing.
+use mathlib.Core.Path.{_≡_, refl, sym, ap, _∙_}
+use mathlib.Core.Bool.{Bool, true, false, _&&_}
+use Prim.Native.Nat.{ℕ, _^_, _<_}
+use native.Mathlib.Omega.{arith}
+use lib.Dec.{T, leb, eqb}
+use lib.IntN.{ℤ, pos, natAbs}
+use lib.Signed.{mag, ltZ, leZ, nonNeg}
+use borrow.Author.Tests.{eqb-true, eqb-false}
+use mir.Syntax.{Width, w32, w64}
+use mir.Val.{SFits, Fits, hbits, bits, ofZ, toZ}
+use mir.Facts.{toZ-ofZ, sfits-widen, fits-bits}
+use Rattle.laws.proofs.Signed.{zp, zn, eq-z, zn-zero, zp-zero, lt-yes, lt-no, le-yes, yes-le, abs-z, nonNeg-z, sfits-hi}
+
+-- a signed result of a call: `back w32 (c .f .result) (c .f .ok)`
+pub back : (w : Width) (z : ℤ) → mag z < 2 ^ hbits w → toZ w (ofZ w z) ≡ z
+back w z h = toZ-ofZ (record { sfits = h })
+
+-- an i32 cast to an i64
+pub widened : (z : ℤ) → SFits w32 z → toZ w64 (ofZ w64 (toZ w32 (ofZ w32 z))) ≡ z
+widened z f = ap (λ (y : ℤ). toZ w64 (ofZ w64 y)) (toZ-ofZ f) ∙ toZ-ofZ (sfits-widen tt f)
+
+-- `if z < 0`, taken and left
+pub is-neg : {w : Width} {z : ℤ} → SFits w z → ltZ (toZ w (ofZ w z)) (pos 0) ≡ true → (zp z ≡ 0) × (0 < zn z)
+is-neg {w} {z} f e = let h = lt-yes z (pos 0) (rw (toZ-ofZ f) at e) in (zp-zero z (omega arith), omega arith)
+
+pub not-neg : {w : Width} {z : ℤ} → SFits w z → ltZ (toZ w (ofZ w z)) (pos 0) ≡ false → zn z ≡ 0
+not-neg {w} {z} f e = zn-zero z (omega (arith, lt-no z (pos 0) (rw (toZ-ofZ f) at e)))
+
+-- `z as usize` of a number that is not negative: what it asks, what it gives, and the way back
+pub cast-ok : {w w′ : Width} {z : ℤ}
+    → SFits w z
+    → T (leb (hbits w) (bits w′))
+    → zn z ≡ 0
+    → T (nonNeg (toZ w (ofZ w z))) × Fits w′ (natAbs (toZ w (ofZ w z)))
+cast-ok {w} {w′} {z} f t e =
+    rw (toZ-ofZ f) (nonNeg-z z (omega arith), fits-bits (hbits w) t (omega (arith, abs-z z, sfits-hi w z f)))
+
+pub cast-val : {w : Width} {z : ℤ} → SFits w z → zn z ≡ 0 → natAbs (toZ w (ofZ w z)) ≡ zp z
+cast-val {w} {z} f e = rw (toZ-ofZ f) (omega (arith, abs-z z))
+
+pub up-is : {w : Width} (z : ℤ) → SFits w z → zn z ≡ 0 → pos (natAbs (toZ w (ofZ w z))) ≡ z
+up-is {w} z f e = rw (cast-val f e) (eq-z (pos (zp z)) z (omega arith))
+
+-- `x == y` goes by the bits: equal bits are equal numbers, and the test is the one of both orders
+pub eq-bits : {w : Width} {x y : ℤ} → SFits w x → SFits w y → ofZ w x ≡ ofZ w y → x ≡ y
+eq-bits {w} {x} {y} f g e = sym (toZ-ofZ f) ∙ ap (toZ w) e ∙ toZ-ofZ g
+
+pub eqb-bits : (w : Width) (x y : ℤ) → SFits w x → SFits w y → eqb (ofZ w x) (ofZ w y) ≡ (leZ x y && leZ y x)
+eqb-bits w x y f g = at (eqb (ofZ w x) (ofZ w y)) refl
+  where
+    both : (a b : Bool) → leZ x y ≡ a → leZ y x ≡ b → eqb (ofZ w x) (ofZ w y) ≡ false → false ≡ (a && b)
+    both true true p q e = absurd (eqb-false _ _ e (ap (ofZ w) (eq-z x y (omega (arith, le-yes x y p, le-yes y x q)))))
+    both true false p q e = refl
+    both false b p q e = refl
+
+    at : (t : Bool) → eqb (ofZ w x) (ofZ w y) ≡ t → t ≡ (leZ x y && leZ y x)
+    at true e = let q = eq-bits f g (eqb-true _ _ e) in rw (q, yes-le y y (omega arith))
+    at false e = both (leZ x y) (leZ y x) refl refl e

@@ -1,0 +1,74 @@
+-- The invariant of a loop that writes `tabulate n f` into a buffer from its front.
+-- Assumes nothing.
+use mathlib.Core.Path.{_≡_, refl, ap, _∙_}
+use mathlib.Core.List.{List, [], _∷_, _++_, append-assoc, append-nil}
+use Prim.Native.Nat.{ℕ, zero, suc, _+_, _-_, _≤_, _<_}
+use native.Mathlib.Nat.{not-suc-le-zero, le-of-suc-le-suc}
+use native.Mathlib.Numerals.{add-one}
+use native.Mathlib.Omega.{arith}
+use lib.ListN.{length, set, drop, length-append, length-drop}
+use lib.Seq.{drop-length, take-at, drop-at, drop-drop}
+use borrow.Rule.Slice.PartMut.{putMid}
+use Rattle.laws.specs.Tabulate.{tabulate}
+use Rattle.laws.proofs.Tabulated.{length-tab, tab-ext, tab-append}
+
+-- the buffer o, which was d, has f 0 .. f (n - 1) at its front and is as it was behind them
+pub record Filled (f : ℕ → ℕ) (d : List ℕ) (n : ℕ) (o : List ℕ) : Type 0 where
+  pub within : n ≤ length d
+  pub is : o ≡ tabulate n f ++ drop n d
+
+-- where the loop begins
+pub filled-none : (f : ℕ → ℕ) (d : List ℕ) → Filled f d 0 d
+unfolding tabulate
+filled-none f d = record { within = omega arith; is = refl }
+
+-- the buffer's length does not change: for `same-length`, and for omega's list
+pub filled-length : {f : ℕ → ℕ} {d : List ℕ} {n : ℕ} {o : List ℕ} → Filled f d n o → length o ≡ length d
+filled-length {f} {d} {n} {o} h =
+    ap length (h .is) ∙ omega (arith, length-append (tabulate n f) (drop n d), length-tab n f, length-drop n d, h .within)
+
+store : (n : ℕ) (f : ℕ → ℕ) (d : List ℕ)
+    → n < length d → set (tabulate n f ++ drop n d) n (f n) ≡ tabulate (suc n) f ++ drop (suc n) d
+unfolding tabulate
+store n f [] l = absurd (not-suc-le-zero l)
+store zero f (x ∷ d) l = refl
+store (suc n) f (x ∷ d) l = ap (λ (t : List ℕ). f zero ∷ t) (store n (λ (k : ℕ). f (suc k)) d (le-of-suc-le-suc l))
+
+-- after a turn that stores o[n] = v
+pub filled-step : {f : ℕ → ℕ} {d : List ℕ} {n : ℕ} {o : List ℕ} {v : ℕ}
+    → Filled f d n o → n < length o → v ≡ f n → Filled f d (n + 1) (set o n v)
+filled-step {f} {d} {n} {o} {v} h l e =
+    let k : n < length d = omega (arith, filled-length h) in
+    record { within = omega arith; is = rw (e, h .is, add-one n) (store n f d k) }
+
+-- after a turn in which a call wrote the part &mut o[n..n + m] and left `tabulate m g` there
+pub filled-part : {f g : ℕ → ℕ} {d : List ℕ} {n : ℕ} {o ys : List ℕ} (m : ℕ)
+    → Filled f d n o
+    → n + m ≤ length o
+    → ys ≡ tabulate m g
+    → ((i : ℕ) → i < m → g i ≡ f (n + i))
+    → Filled f d (n + m) (putMid n (n + m - n) o ys)
+filled-part {f} {g} {d} {n} {o} {ys} m h l e p =
+    let k : n + m - n ≡ m = omega arith in
+    record {
+      within = omega (arith, filled-length h);
+      is =
+          rw (
+            k,
+            h .is,
+            take-at (tabulate n f) (drop n d) n (length-tab n f),
+            drop-at (tabulate n f) (drop n d) n (length-tab n f),
+            drop-drop m n d,
+            e,
+            tab-ext m g (λ (i : ℕ). f (n + i)) p,
+            ← append-assoc (tabulate n f) (tabulate m (λ (i : ℕ). f (n + i))) (drop (n + m) d),
+            tab-append n m f,
+          );
+    }
+
+-- where the loop has ended: the whole buffer is the tabulated list
+pub filled-all : {f : ℕ → ℕ} {d : List ℕ} {n : ℕ} {o : List ℕ}
+    → Filled f d n o → length o ≤ n → o ≡ tabulate (length d) f
+filled-all {f} {d} {n} {o} h l =
+    let e : n ≡ length d = omega (arith, filled-length h, h .within) in
+    h .is ∙ rw (e, drop-length d) (append-nil (tabulate (length d) f))

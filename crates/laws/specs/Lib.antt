@@ -1,0 +1,2 @@
+-- Definitions of plain mathematics that contracts of other crates cite.
+pub mod Tabulate
