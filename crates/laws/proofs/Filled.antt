@@ -66,9 +66,9 @@ filled-part {f} {g} {d} {n} {o} {ys} m h l e p =
           );
     }
 
--- where the loop has ended: the whole buffer is the tabulated list
-pub filled-all : {f : ℕ → ℕ} {d : List ℕ} {n : ℕ} {o : List ℕ}
-    → Filled f d n o → length o ≤ n → o ≡ tabulate (length d) f
-filled-all {f} {d} {n} {o} h l =
-    let e : n ≡ length d = omega (arith, filled-length h, h .within) in
-    h .is ∙ rw (e, drop-length d) (append-nil (tabulate (length d) f))
+-- where the loop has ended: the whole buffer, of m elements, is the tabulated list
+pub filled-all : {f : ℕ → ℕ} {d : List ℕ} {n m : ℕ} {o : List ℕ}
+    → Filled f d n o → length o ≤ n → length d ≡ m → o ≡ tabulate m f
+filled-all {f} {d} {n} {m} {o} h l e =
+    let k : n ≡ length d = omega (arith, filled-length h, h .within) in
+    h .is ∙ rw (k, drop-length d, e) (append-nil (tabulate m f))

@@ -1,2 +1,3 @@
--- Definitions of plain mathematics that contracts of other crates cite.
+-- Definitions of plain mathematics that contracts and claims of other crates cite.
 pub mod Tabulate
+pub mod All

@@ -1,0 +1,19 @@
+-- Laws of averaging for the layers above.
+-- Assumes nothing.
+use mathlib.Core.Path.{_≡_, refl}
+use Prim.Native.Nat.{ℕ, zero, suc, _+_, _/_, _≤_, _<_}
+use native.Mathlib.Omega.{arith}
+use Rattle.combine_predictions.specs.Averaging.{mean2, numberOf, answerOf}
+
+-- document 01's form of the mean
+pub mean2-is : (a b : ℕ) → mean2 a b ≡ (a + b + 1) / 2
+mean2-is a b = refl
+
+-- the mean of two samples is a sample
+pub mean2-byte : (a b : ℕ) → a < 256 → b < 256 → mean2 a b < 256
+mean2-byte a b h k = omega arith
+
+-- an answer's number is the one that it was made of, so that no refusal has number 0
+pub number-answer : (n : ℕ) → numberOf (answerOf n) ≡ n
+number-answer zero = refl
+number-answer (suc n) = refl

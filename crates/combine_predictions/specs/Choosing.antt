@@ -1,0 +1,13 @@
+-- ISO/IEC 13818-2, 7.6.7.1: where there is one direction alone, its prediction is the macroblock's.
+use mathlib.Core.List.{List}
+use Prim.Native.Nat.{ℕ}
+use denote.Ref.{RefT}
+use Rattle.combine_predictions.specs.declared.PredictionDirection.{PredictionDirection}
+use Rattle.combine_predictions.specs.declared.PredictionDirection.the-variants.{Forward, Backward, Skipped}
+
+-- the lent slice itself, where it points included, and not a copy of its bytes. A skipped macroblock (7.6.6) has its prediction, by
+-- zero vectors, in the forward slice.
+abbrev pub chosen : PredictionDirection → RefT (List ℕ) → RefT (List ℕ) → RefT (List ℕ)
+chosen Forward forward backward = forward
+chosen Backward forward backward = backward
+chosen Skipped forward backward = forward
