@@ -1,9 +1,11 @@
--- Laws of averaging for the layers above.
+-- Laws of averaging, for the proof of the call and for the layers above.
 -- Assumes nothing.
 use mathlib.Core.Path.{_≡_, refl}
-use Prim.Native.Nat.{ℕ, zero, suc, _+_, _/_, _≤_, _<_}
+use Prim.Native.Nat.{ℕ, zero, suc, _+_, _/_, _<_}
 use native.Mathlib.Omega.{arith}
-use Rattle.combine_predictions.specs.Averaging.{mean2, numberOf, answerOf}
+use borrow.Author.Tests.{eq-eqb, ne-eqb}
+use Rattle.combine_predictions.specs.Refusals.{wrongLength, lengthsDiffer}
+use Rattle.combine_predictions.specs.Averaging.{mean2, averageRefusal, numberOf, answerOf}
 
 -- document 01's form of the mean
 pub mean2-is : (a b : ℕ) → mean2 a b ≡ (a + b + 1) / 2
@@ -17,3 +19,14 @@ mean2-byte a b h k = omega arith
 pub number-answer : (n : ℕ) → numberOf (answerOf n) ≡ n
 number-answer zero = refl
 number-answer (suc n) = refl
+
+-- inputs of f and b bytes and an output of o: when each number is given
+module _ (f b o : ℕ) where
+  pub refused-19 : (f ≡ b → ⊥) → averageRefusal f b o ≡ lengthsDiffer
+  refused-19 h = rw (ne-eqb f b h)
+
+  pub refused-18 : f ≡ b → (o ≡ f → ⊥) → averageRefusal f b o ≡ wrongLength
+  refused-18 h k = rw (eq-eqb f b h, ne-eqb o f k)
+
+  pub accepted : f ≡ b → o ≡ f → averageRefusal f b o ≡ 0
+  accepted h k = rw (eq-eqb f b h, eq-eqb o f k)

@@ -2,7 +2,6 @@
 use Prim.Native.Nat.{ℕ, _+_, _/_}
 
 infixl 7 _//_
-
 -- the quotient rounded to the nearest whole number, a half upwards: the standard rounds it away from zero, and samples are never
 -- negative. proofs/Rounding.antt shows that it is the nearest.
 abbrev pub _//_ : ℕ → ℕ → ℕ
