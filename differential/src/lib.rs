@@ -1,6 +1,6 @@
 //! The Rust original (OxideAV/oxideav-mpeg12video at commit 57648ece95) as an
 //! oracle: ten of its files, unchanged, as the modules `pmv`,
-//! `forming_predictions` and so on, with [`shims`] for what they name of the rest.
+//! `forming_predictions` and so on, with shims for what they name of the rest.
 
 // The files name the crate `oxideav_core`; its one item they use is a shim here.
 extern crate self as oxideav_core;

@@ -1,32 +1,31 @@
 //! What the ten files name of the original's other files, and of the crate
 //! `oxideav_core`, as far as the compiler asks for it.
 //!
-//! The comparisons call `average_predictions`, `combine_directional_predictions`, the
-//! public items of `forming_predictions` and `pmv`, `predict_frame_macroblock_planes`,
-//! `predict_field_based_macroblock_planes`, and `FrameBuffer`'s and `Plane`'s own
-//! methods. Of what is below, only [`Error`], [`Result`] and
-//! [`ChromaFormat`](sequence_extension::ChromaFormat) take part in those calls. The rest
-//! never runs: its functions stop the program, since a guess at what they answer could
-//! pass for the original's answer.
+//! The comparisons call `average_predictions`, `combine_directional_predictions`, what is
+//! public in `forming_predictions` and `pmv`, `predict_frame_macroblock_planes`,
+//! `predict_field_based_macroblock_planes`, and the methods of `FrameBuffer` and `Plane`.
+//! Of what is below, `Error`, `Result` and `ChromaFormat` take part in those calls. The
+//! rest never runs, and its functions stop the program: a guess at what they answer
+//! could pass for the original's answer.
 
 fn never_runs(item: &str) -> ! {
     unreachable!("{item} is a shim that no comparison may reach")
 }
 
-/// The crate's error. Used throughout `pmv` and by the parsers. Runs: `pmv`'s refusals carry it.
+/// The crate's error. Used by `pmv`, `dual_prime`, `frame_assembly`, the parsers. Runs: in `pmv`.
 #[derive(Debug)]
 pub enum Error {
-    /// Runs: the refusals of `pmv`, each with its text.
+    /// Runs: `pmv`'s refusals, each with its text.
     InvalidBitstream(&'static str),
-    /// Never runs: only the parsers, at the end of their input.
+    /// Never runs: the parsers', at the end of their input.
     ShortHeader,
 }
 
-/// The crate's `Result`. Used as `Error` is. Runs: the answers of `pmv`.
+/// The crate's result. Used as `Error` is. Runs: in `pmv`.
 pub type Result<T> = core::result::Result<T, Error>;
 
 pub mod sequence_extension {
-    /// The chroma formats. Used by `scale_chroma`, `FrameBuffer` and its users. Runs.
+    /// The chroma formats. Used by `scale_chroma`, `FrameBuffer` and all that takes one. Runs.
     #[derive(Debug, Clone, Copy, PartialEq, Eq)]
     pub enum ChromaFormat {
         Yuv420,
@@ -46,12 +45,12 @@ pub mod mpeg2_macroblock_blocks {
     use crate::mpeg2_block_dc::ColourComponent;
     use crate::sequence_extension::ChromaFormat;
 
-    /// Blocks a macroblock. Used by `block_placement` and the `reconstruct_` calls. Never runs.
+    /// How many blocks. Used by `block_placement` and the `reconstruct_` functions. Never runs.
     pub fn block_count(_format: ChromaFormat) -> usize {
         super::never_runs("block_count")
     }
 
-    /// A block's component. Used by `block_placement` and `write_inter_block`. Never runs.
+    /// A block's component. Used by `block_placement`, `block_component_and_mb_width`. Never runs.
     pub fn block_component(_block: usize, _format: ChromaFormat) -> Option<ColourComponent> {
         super::never_runs("block_component")
     }
@@ -66,8 +65,7 @@ pub mod mpeg1_reconstruct {
 }
 
 pub mod macroblock_type {
-    /// The parsed `macroblock_type`. Used by `MacroblockModes::parse` and, in
-    /// `MacroblockRecord`, by `place_intra_macroblock`. Never runs.
+    /// A type's flags. Used by `MacroblockModes::parse`, `place_intra_macroblock`. Never runs.
     pub struct MacroblockType {
         pub macroblock_motion_forward: bool,
         pub macroblock_motion_backward: bool,
@@ -79,12 +77,18 @@ pub mod macroblock_type {
 
 pub mod quant_matrix_extension {
     /// The weighting matrices. Used by the `decode_intra_picture` calls. Never runs.
-    #[derive(Clone, Copy, Default)]
+    #[derive(Clone, Copy)]
     pub struct QuantiserMatrixState;
+
+    impl Default for QuantiserMatrixState {
+        fn default() -> Self {
+            super::never_runs("QuantiserMatrixState::default")
+        }
+    }
 }
 
 pub mod slice_header {
-    /// What a slice header's parser is told. Used by `decode_intra_picture_with_context`. Never runs.
+    /// The slice parser's context. Used by `decode_intra_picture_with_context`. Never runs.
     #[derive(Clone, Copy)]
     pub struct SliceContext;
 
@@ -117,7 +121,7 @@ pub mod slice_macroblock_walk {
     use crate::quant_matrix_extension::QuantiserMatrixState;
     use crate::sequence_extension::ChromaFormat;
 
-    /// What the walk of a slice is told. Used by `decode_intra_picture_with_context`. Never runs.
+    /// The slice walk's context. Used by `decode_intra_picture_with_context`. Never runs.
     pub struct SliceWalkContext;
 
     impl SliceWalkContext {
@@ -148,7 +152,7 @@ pub mod slice_macroblock_walk {
         }
     }
 
-    /// What the walk of a slice gives. Used by `decode_intra_picture_with_context`. Never runs.
+    /// The slice walk's result. Used by `decode_intra_picture_with_context`. Never runs.
     pub struct SliceWalk {
         pub macroblocks: Vec<MacroblockRecord>,
     }
@@ -184,9 +188,8 @@ pub fn walk_slice_at(
 
 pub mod bits {
     use super::never_runs;
-
-    /// What a read past the end gives is dropped by every caller.
-    type Bits<T> = core::result::Result<T, ()>;
+    // For `oxideav_core`'s own: the files drop its error for one of the crate's.
+    use crate::Result;
 
     /// `oxideav_core`'s bit reader. Used by the parsers and `decode_dc_block`. Never runs.
     pub struct BitReader<'a>(core::marker::PhantomData<&'a [u8]>);
@@ -196,23 +199,23 @@ pub mod bits {
             never_runs("BitReader::new")
         }
 
-        pub fn read_u32(&mut self, _bits: u32) -> Bits<u32> {
+        pub fn read_u32(&mut self, _bits: u32) -> Result<u32> {
             never_runs("BitReader::read_u32")
         }
 
-        pub fn read_bit(&mut self) -> Bits<bool> {
+        pub fn read_bit(&mut self) -> Result<bool> {
             never_runs("BitReader::read_bit")
         }
 
-        pub fn peek_u32(&mut self, _bits: u32) -> Bits<u32> {
+        pub fn peek_u32(&mut self, _bits: u32) -> Result<u32> {
             never_runs("BitReader::peek_u32")
         }
 
-        pub fn consume(&mut self, _bits: u32) -> Bits<()> {
+        pub fn consume(&mut self, _bits: u32) -> Result<()> {
             never_runs("BitReader::consume")
         }
 
-        pub fn skip(&mut self, _bits: u32) -> Bits<()> {
+        pub fn skip(&mut self, _bits: u32) -> Result<()> {
             never_runs("BitReader::skip")
         }
 

@@ -1,0 +1,98 @@
+//! The text of a list, in the format that every replay program reads.
+
+use std::fmt::{self, Display};
+
+/// The original's commit.
+pub const COMMIT: &str = "57648ece95";
+
+/// No byte string of a list is longer: the replay programs may rely on it.
+const LONGEST: usize = 1024;
+
+/// What every list says of its format.
+const NOTATION: &str = "\
+One case a line, its fields separated by one blank; lines that start with # are comments.
+Byte strings are lower-case hexadecimal, two digits a byte, and - is the empty one.
+Numbers are decimal, with a minus if negative.";
+
+/// A fixed list of cases, each with the original's answer.
+pub struct List {
+    /// What the list is about, in a word.
+    pub name: &'static str,
+    /// The file it is kept in, below the root of the repository.
+    pub place: &'static str,
+    /// How it was made, in a few plain lines.
+    pub made: String,
+    pub text: String,
+    pub cases: usize,
+}
+
+impl List {
+    /// A list without cases. Its text opens with `made` and with `fields`, the meaning of
+    /// the fields.
+    pub fn new(name: &'static str, place: &'static str, made: &str, fields: &str) -> Self {
+        let mut list = Self {
+            name,
+            place,
+            made: made.to_owned(),
+            text: String::new(),
+            cases: 0,
+        };
+        list.comment(&format!(
+            "The {name} list. Written by differential/, binary `lists`: not to be edited by hand."
+        ));
+        list.group(made);
+        list.group(NOTATION);
+        list.group(fields);
+        list
+    }
+
+    /// Opens a part of the list with a comment that says what it is.
+    pub fn group(&mut self, what: &str) {
+        self.line("#");
+        self.comment(what);
+    }
+
+    /// Adds a case. Stops at a line that breaks the format, which is a slip in the maker.
+    pub fn case(&mut self, case: impl Display) {
+        let line = case.to_string();
+        assert!(!line.starts_with('#'), "a case reads as a comment: {line}");
+        for field in line.split(' ') {
+            assert!(
+                (1..=2 * LONGEST).contains(&field.len()),
+                "a field is empty or too long: {line}"
+            );
+        }
+        self.line(&line);
+        self.cases += 1;
+    }
+
+    fn comment(&mut self, text: &str) {
+        for line in text.lines() {
+            self.line(&format!("# {line}"));
+        }
+    }
+
+    fn line(&mut self, line: &str) {
+        assert!(
+            line.bytes().all(|byte| matches!(byte, b' '..=b'~')),
+            "a line is not plain ASCII: {line}"
+        );
+        self.text.push_str(line);
+        self.text.push('\n');
+    }
+}
+
+/// A byte string as the lists write it.
+pub struct Hex<'a>(pub &'a [u8]);
+
+impl Display for Hex<'_> {
+    fn fmt(&self, f: &mut fmt::Formatter<'_>) -> fmt::Result {
+        if self.0.is_empty() {
+            return f.write_str("-");
+        }
+        for byte in self.0 {
+            write!(f, "{byte:02x}")?;
+        }
+        Ok(())
+    }
+}
