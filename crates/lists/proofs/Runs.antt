@@ -1,0 +1,53 @@
+-- Laws of classes of bytes and of runs.
+-- Assumes nothing.
+use mathlib.Core.Path.{_≡_, refl}
+use mathlib.Core.Bool.{Bool, true, false, not, _&&_}
+use mathlib.Core.List.{List}
+use Prim.Native.Nat.{ℕ, suc, _+_, _≤_, _<_}
+use native.Mathlib.Numerals.{add-one}
+use native.Mathlib.Omega.{arith}
+use lib.Dec.{leb}
+use lib.ListN.{length, getD, drop, drop-of-length-le}
+use lib.Seq.{drop-cons}
+use borrow.Author.Tests.{leb-true}
+use Rattle.lists.specs.declared.Class.the-variants.{Digit, Hex}
+use Rattle.lists.specs.Text.{inClass, leading}
+
+-- a test `if !x`, taken and left
+pub not-taken : (x : Bool) → not x ≡ true → x ≡ false
+not-taken true e = let z : _≡_ {A = ℕ} 0 1 = cc in absurd (omega arith)
+not-taken false e = refl
+
+pub not-left : (x : Bool) → not x ≡ false → x ≡ true
+not-left true e = refl
+not-left false e = let z : _≡_ {A = ℕ} 0 1 = cc in absurd (omega arith)
+
+both : (x y : Bool) → (x && y) ≡ true → (x ≡ true) × (y ≡ true)
+both true y e = (refl, e)
+both false y e = let z : _≡_ {A = ℕ} 0 1 = cc in absurd (omega arith)
+
+range : (l h b : ℕ) → (leb l b && leb b h) ≡ true → (l ≤ b) × (b ≤ h)
+range l h b e =
+    let t = both (leb l b) (leb b h) e in
+    (leb-true l b (t .0), leb-true b h (t .1))
+
+pub digit-range : (b : ℕ) → inClass Digit b ≡ true → (48 ≤ b) × (b ≤ 57)
+digit-range b e = range 48 57 b e
+
+-- a hexadecimal digit that is no decimal one
+pub letter-range : (b : ℕ) → inClass Digit b ≡ false → inClass Hex b ≡ true → (97 ≤ b) × (b ≤ 102)
+letter-range b d e = range 97 102 b (rw d at e)
+
+-- a run, by the element at its first place
+module _ (p : ℕ → Bool) (s : List ℕ) (i : ℕ) where
+  pub leading-more : i < length s → p (getD s i 0) ≡ true → leading p (drop i s) ≡ suc (leading p (drop (i + 1) s))
+  unfolding leading
+  leading-more h e = rw (add-one i, drop-cons s i 0 h, e)
+
+  pub leading-stop : i < length s → p (getD s i 0) ≡ false → leading p (drop i s) ≡ 0
+  unfolding leading
+  leading-stop h e = rw (drop-cons s i 0 h, e)
+
+  pub leading-end : length s ≤ i → leading p (drop i s) ≡ 0
+  unfolding leading
+  leading-end h = rw (drop-of-length-le s h)

@@ -1,0 +1,285 @@
+//! Reads lists of cases: text with a case to a line, words between blanks, decimal numbers, hexadecimal byte strings, and comments
+//! that begin with a number sign. A reader takes the text and a place in it and answers with the place after what it read. It takes
+//! every place; where the word there is not what was asked for, `good` is false.
+ghost use mathlib.Core.Path.{_≡_};
+ghost use Prim.Native.Nat.{_+_, _*_, _^_, _/_, _≤_, _<_};
+ghost use lib.IntN.{pos, negℤ};
+ghost use lib.ListN.{length};
+ghost use Rattle.lists.specs.Text.{inClass, runEnd, wordStart, wordEnd, wordAt, nextAt};
+ghost use Rattle.lists.specs.Numbers.{digitOf, decimal, isNatural, naturalOf, isNumber, numberOf, NumberAt};
+ghost use Rattle.lists.specs.ByteStrings.{hexOf, byteAt, bytesOf, isBytes, stored, BytesAt};
+
+/// Classes of bytes.
+enum Class {
+    Blank,
+    Word,
+    Line,
+    Digit,
+    Hex,
+}
+
+/// What comes next in a list.
+pub enum Next {
+    /// A case, at this place.
+    Case(usize),
+    /// A comment; its line ends at this place.
+    Comment(usize),
+    End,
+}
+
+/// A number that was read, and the place after it.
+pub struct Number {
+    pub value: i64,
+    pub next: usize,
+    pub good: bool,
+}
+
+/// How many bytes were stored, and the place after them.
+pub struct Bytes {
+    pub count: usize,
+    pub next: usize,
+    pub good: bool,
+}
+
+/// The word at a place: s[from..end].
+struct Span {
+    from: usize,
+    end: usize,
+}
+
+/// A number without its place.
+struct Natural {
+    value: u64,
+    good: bool,
+}
+
+struct Signed {
+    value: i64,
+    good: bool,
+}
+
+fn belongs(class: Class, b: u8) -> bool
+    ensures { λ r. ⌜ r ≡ inClass class b ⌝ }
+{
+    match class {
+        Class::Blank => (b == b' ') | (b == b'\n'),
+        Class::Word => !((b == b' ') | (b == b'\n')),
+        Class::Line => !(b == b'\n'),
+        Class::Digit => (b'0' <= b) & (b <= b'9'),
+        Class::Hex => ((b'0' <= b) & (b <= b'9')) | ((b'a' <= b) & (b <= b'f')),
+    }
+}
+
+/// The place after the run of a class that starts at `at`.
+fn run(class: Class, s: &[u8], at: usize) -> usize
+    requires { ⌜ at ≤ length (now s) ⌝ }
+    ensures { λ r. ⌜ (r ≡ runEnd class (now (s .entry)) at) × (at ≤ r) × (r ≤ length (now (s .entry))) ⌝ }
+{
+    let mut i = at;
+    while i < s.len() {
+        if !belongs(class, s[i]) {
+            return i;
+        }
+        i += 1;
+    }
+    i
+}
+
+fn word(s: &[u8], at: usize) -> Span
+    ensures { λ r. ⌜ (r .from ≡ wordStart (now (s .entry)) at) × (r .end ≡ wordEnd (now (s .entry)) at) × (r .from ≤ r .end) × (r .end ≤ length (now (s .entry))) ⌝ }
+{
+    let mut place = s.len();
+    if at < place {
+        place = at;
+    }
+    let from = run(Class::Blank, s, place);
+    let end = run(Class::Word, s, from);
+    Span {
+        from: from,
+        end: end,
+    }
+}
+
+/// The next case or comment from `at` on.
+pub fn find_next(s: &[u8], at: usize) -> Next
+    ensures { λ r. ⌜ r ≡ nextAt (now (s .entry)) at ⌝ }
+{
+    let w = word(s, at);
+    let from = w.from;
+    if from >= s.len() {
+        return Next::End;
+    }
+    if s[from] == b'#' {
+        return Next::Comment(run(Class::Line, s, from));
+    }
+    Next::Case(from)
+}
+
+fn digit(b: u8) -> u64
+    ensures { λ r. ⌜ (r ≡ digitOf b) × (r ≤ 9) ⌝ }
+{
+    if belongs(Class::Digit, b) {
+        return (b - b'0') as u64;
+    }
+    0
+}
+
+/// The value of at most 18 digits.
+fn digits(w: &[u8]) -> u64
+    requires { ⌜ length (now w) ≤ 18 ⌝ }
+    ensures { λ r. ⌜ (r ≡ decimal 0 (now (w .entry))) × (r < 10 ^ 18) ⌝ }
+{
+    let mut value: u64 = 0;
+    let mut i: usize = 0;
+    while i < w.len() {
+        value = value * 10 + digit(w[i]);
+        i += 1;
+    }
+    value
+}
+
+fn parse_natural(w: &[u8]) -> Natural
+    ensures { λ r. ⌜ (r .value ≡ naturalOf (now (w .entry))) × (r .good ≡ isNatural (now (w .entry))) × (r .value < 10 ^ 18) ⌝ }
+{
+    if w.len() == 0 {
+        return Natural {
+            value: 0,
+            good: false,
+        };
+    }
+    if w.len() > 18 {
+        return Natural {
+            value: 0,
+            good: false,
+        };
+    }
+    if run(Class::Digit, w, 0) != w.len() {
+        return Natural {
+            value: 0,
+            good: false,
+        };
+    }
+    Natural {
+        value: digits(w),
+        good: true,
+    }
+}
+
+fn negative(value: u64) -> i64
+    requires { ⌜ value < 10 ^ 18 ⌝ }
+    ensures { λ r. ⌜ r ≡ negℤ (pos value) ⌝ }
+{
+    -(value as i64)
+}
+
+fn parse_number(w: &[u8]) -> Signed
+    ensures { λ r. ⌜ (r .value ≡ numberOf (now (w .entry))) × (r .good ≡ isNumber (now (w .entry))) ⌝ }
+{
+    if w.len() == 0 {
+        return Signed {
+            value: 0,
+            good: false,
+        };
+    }
+    if w[0] == b'-' {
+        let m = parse_natural(&w[1..]);
+        return Signed {
+            value: negative(m.value),
+            good: m.good,
+        };
+    }
+    let m = parse_natural(w);
+    Signed {
+        value: m.value as i64,
+        good: m.good,
+    }
+}
+
+/// Reads the number at `at`: an optional minus and 1 to 18 digits.
+pub fn read_number(s: &[u8], at: usize) -> Number
+    ensures { λ r. ⌜ NumberAt (now (s .entry)) at r ⌝ }
+{
+    let w = word(s, at);
+    let from = w.from;
+    let end = w.end;
+    let v = parse_number(&s[from..end]);
+    Number {
+        value: v.value,
+        next: end,
+        good: v.good,
+    }
+}
+
+fn hex_digit(b: u8) -> u8
+    ensures { λ r. ⌜ (r ≡ hexOf b) × (r ≤ 15) ⌝ }
+{
+    if belongs(Class::Digit, b) {
+        return b - b'0';
+    }
+    if belongs(Class::Hex, b) {
+        return b - b'a' + 10;
+    }
+    0
+}
+
+fn hex_byte(high: u8, low: u8) -> u8
+    ensures { λ r. ⌜ r ≡ hexOf high * 16 + hexOf low ⌝ }
+{
+    hex_digit(high) * 16 + hex_digit(low)
+}
+
+/// Whether a word is a byte string that `room` bytes can hold.
+fn is_bytes(w: &[u8], room: usize) -> bool
+    ensures { λ r. ⌜ r ≡ isBytes (now (w .entry)) room ⌝ }
+{
+    if w.len() == 0 {
+        return false;
+    }
+    if w.len() == 1 {
+        return w[0] == b'-';
+    }
+    if w.len() % 2 != 0 {
+        return false;
+    }
+    if w.len() / 2 > room {
+        return false;
+    }
+    run(Class::Hex, w, 0) == w.len()
+}
+
+/// Stores the bytes of a word.
+fn store(w: &[u8], out: &mut [u8])
+    requires { ⌜ length (now out) ≡ length (now w) / 2 ⌝ }
+    ensures { λ r. ⌜ now (out .exit) ≡ bytesOf (now (w .entry)) ⌝ }
+{
+    let mut k: usize = 0;
+    while k < out.len() {
+        out[k] = hex_byte(w[2 * k], w[2 * k + 1]);
+        k += 1;
+    }
+}
+
+/// Reads the byte string at `at` into the front of `out`; where none stands there that `out` has room for, `out` stays as it was.
+pub fn read_bytes(s: &[u8], at: usize, out: &mut [u8]) -> Bytes
+    ensures answer { λ r. ⌜ BytesAt (now (s .entry)) at (length (now (out .entry))) r ⌝ }
+    ensures buffer { λ r. ⌜ now (out .exit) ≡ stored (wordAt (now (s .entry)) at) (now (out .entry)) ⌝ }
+    ensures within { λ r. ⌜ r .count ≤ length (now (out .exit)) ⌝ }
+{
+    let w = word(s, at);
+    let from = w.from;
+    let end = w.end;
+    if !is_bytes(&s[from..end], out.len()) {
+        return Bytes {
+            count: 0,
+            next: end,
+            good: false,
+        };
+    }
+    let count = (end - from) / 2;
+    store(&s[from..end], &mut out[0..count]);
+    Bytes {
+        count: count,
+        next: end,
+        good: true,
+    }
+}
