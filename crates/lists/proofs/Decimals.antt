@@ -2,16 +2,18 @@
 -- Assumes nothing.
 use mathlib.Core.Path.{_≡_, refl}
 use mathlib.Core.Bool.{true, false}
-use mathlib.Core.List.{List}
+use mathlib.Core.List.{List, [], _∷_}
 use Prim.Native.Nat.{ℕ, _+_, _*_, _-_, _^_, _≤_, _<_}
 use native.Mathlib.Nat.{pow-suc, pow-le-pow-right}
 use native.Mathlib.Numerals.{add-one}
 use native.Mathlib.Omega.{arith}
+use lib.IntN.{pos}
 use lib.ListN.{length, getD, drop, drop-of-length-le}
 use lib.Seq.{drop-cons}
+use borrow.Author.Tests.{lt-ltb, le-ltb, le-leb, lt-leb, eq-eqb, ne-eqb}
 use Rattle.lists.specs.declared.Class.the-variants.{Digit, Hex}
-use Rattle.lists.specs.Text.{inClass}
-use Rattle.lists.specs.Numbers.{digitOf, decimal}
+use Rattle.lists.specs.Text.{inClass, leading}
+use Rattle.lists.specs.Numbers.{digitOf, decimal, isNatural, isNumber, numberOf}
 use Rattle.lists.specs.ByteStrings.{hexOf}
 use Rattle.lists.proofs.Runs.{digit-range, letter-range}
 
@@ -50,3 +52,22 @@ below-more v d i h k = rw (add-one i, pow-suc 10 i) (omega arith)
 
 pub below-18 : (v i : ℕ) → v < 10 ^ i → i ≤ 18 → v < 10 ^ 18
 below-18 v i h k = omega (arith, pow-le-pow-right {n = 10} (omega arith) k)
+
+-- which words are numbers without a sign
+module _ (w : List ℕ) where
+  pub natural-empty : length w ≡ 0 → isNatural w ≡ false
+  natural-empty e = rw (le-ltb 0 (length w) (omega arith))
+
+  pub natural-long : 18 < length w → isNatural w ≡ false
+  natural-long h = rw (lt-ltb 0 (length w) (omega arith), lt-leb (length w) 18 h)
+
+  pub natural-other : 0 < length w → length w ≤ 18 → (leading (inClass Digit) w ≡ length w → ⊥) → isNatural w ≡ false
+  natural-other h k n = rw (lt-ltb 0 (length w) h, le-leb (length w) 18 k, ne-eqb _ _ n)
+
+  pub natural-good : 0 < length w → length w ≤ 18 → leading (inClass Digit) w ≡ length w → isNatural w ≡ true
+  natural-good h k e = rw (lt-ltb 0 (length w) h, le-leb (length w) 18 k, eq-eqb _ _ e)
+
+pub number-empty : (w : List ℕ) → length w ≡ 0 → (pos 0 ≡ numberOf w) × (false ≡ isNumber w)
+unfolding leading
+number-empty [] e = (refl, refl)
+number-empty (b ∷ w) e = absurd (omega arith)

@@ -1,7 +1,8 @@
 -- Laws of classes of bytes and of runs.
 -- Assumes nothing.
 use mathlib.Core.Path.{_≡_, refl}
-use mathlib.Core.Bool.{Bool, true, false, not, _&&_}
+use mathlib.Core.Logic.{_⊎_, inl, inr}
+use mathlib.Core.Bool.{Bool, true, false, not, _&&_, _||_}
 use mathlib.Core.List.{List}
 use Prim.Native.Nat.{ℕ, suc, _+_, _≤_, _<_}
 use native.Mathlib.Numerals.{add-one}
@@ -22,9 +23,14 @@ pub not-left : (x : Bool) → not x ≡ false → x ≡ true
 not-left true e = refl
 not-left false e = let z : _≡_ {A = ℕ} 0 1 = cc in absurd (omega arith)
 
-both : (x y : Bool) → (x && y) ≡ true → (x ≡ true) × (y ≡ true)
+-- both tests of `x && y`, and one of `x || y`
+pub both : (x y : Bool) → (x && y) ≡ true → (x ≡ true) × (y ≡ true)
 both true y e = (refl, e)
 both false y e = let z : _≡_ {A = ℕ} 0 1 = cc in absurd (omega arith)
+
+pub either : (x y : Bool) → (x || y) ≡ true → (x ≡ true) ⊎ (y ≡ true)
+either true y e = inl refl
+either false y e = inr e
 
 range : (l h b : ℕ) → (leb l b && leb b h) ≡ true → (l ≤ b) × (b ≤ h)
 range l h b e =

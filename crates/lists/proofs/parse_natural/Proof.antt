@@ -1,34 +1,39 @@
+-- `parse_natural` meets its contract: the tests in their order.
+-- Assumes nothing.
+use Prim.Native.Nat.{ℕ}
+use native.Mathlib.Omega.{arith}
+use mathlib.Core.Path.{_≡_, refl, sym}
 use borrow.Author.Needs.{needs}
+use lib.ListN.{length}
+use Rattle.lists.specs.declared.Class.the-variants.{Digit}
+use Rattle.lists.specs.Text.{inClass, leading}
+use Rattle.lists.proofs.Decimals.{natural-empty, natural-long, natural-other, natural-good}
 use Rattle.lists.proofs.parse_natural.Statement.{statement}
 use Rattle.lists.proofs.parse_natural.Tie as tie
-use Rattle.lists.proofs.parse_natural.Reads as reads
-use Rattle.lists.proofs.parse_natural.Lts as lts
-use Rattle.lists.proofs.digits.Reads as digits-reads
-use Rattle.lists.proofs.run.Reads as run-reads
 
--- src/lib.rt:145:9
 returns : tie.Need-returns
-returns c = ?
+returns c = rw (natural-empty (c .before .before .args .w .now) (c .if1 .taken)) (refl, refl, search needs)
 
--- src/lib.rt:151:9
 returns-2 : tie.Need-returns-2
-returns-2 c = ?
+returns-2 c = rw (natural-long (c .before .before .before .args .w .now) (c .if2 .taken)) (refl, refl, search needs)
 
--- src/lib.rt:156:8
 run-requires : tie.Need-run-requires
 run-requires c κs = search needs
 
--- src/lib.rt:157:9
 returns-3 : tie.Need-returns-3
-returns-3 c = ?
+returns-3 c = 
+    let w = c .before .before .before .before .before .args .w .now in
+    let no : leading (inClass Digit) w ≡ length w → ⊥ = λ e. c .if3 .taken (omega (arith, c .before .run .ensures .0)) in
+    rw (natural-other w (search needs) (search needs) no) (refl, refl, search needs)
 
--- src/lib.rt:163:16
 digits-requires : tie.Need-digits-requires
 digits-requires c κs = search needs
 
--- src/lib.rt:141:1
 returns-4 : tie.Need-returns-4
-returns-4 c = ?
+returns-4 c = 
+    let w = c .before .before .before .before .before .before .args .w .now in
+    let all : leading (inClass Digit) w ≡ length w = omega (arith, c .before .before .run .ensures .0) in
+    rw (natural-good w (search needs) (search needs) all) (c .digits .ensures .0, refl, c .digits .ensures .1)
 
 pub parse-natural-spec : {M : Type 1} → statement M
 parse-natural-spec =

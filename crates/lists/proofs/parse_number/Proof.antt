@@ -1,54 +1,66 @@
+-- `parse_number` meets its contract: a minus, or none, before the digits.
+-- Assumes nothing.
+use Prim.Native.Nat.{ℕ, _<_, _^_}
+use native.Mathlib.Omega.{arith}
+use mathlib.Core.Path.{_≡_, refl, ap, _∙_}
 use borrow.Author.Needs.{needs}
+use lib.IntN.{ℤ, pos, negℤ}
+use mir.Syntax.{w64}
+use mir.Val.{hbits}
+use mir.Facts.{toZ-pos}
+use borrow.Author.Tests.{eq-eqb, ne-eqb}
+use lib.ListN.{length, getD}
+use Rattle.laws.proofs.Bits.{back}
+use Rattle.lists.specs.Numbers.{isNatural, naturalOf}
+use Rattle.lists.proofs.Words.{part-rest}
+use Rattle.lists.proofs.Decimals.{number-empty}
 use Rattle.lists.proofs.parse_number.Statement.{statement}
 use Rattle.lists.proofs.parse_number.Tie as tie
-use Rattle.lists.proofs.parse_number.Reads as reads
-use Rattle.lists.proofs.parse_number.Lts as lts
-use Rattle.lists.proofs.negative.Reads as negative-reads
-use Rattle.lists.proofs.parse_natural.Reads as parse-natural-reads
 
--- src/lib.rt:179:9
 returns : tie.Need-returns
-returns c = ?
+returns c = number-empty (c .before .before .args .w .now) (c .if1 .taken)
 
--- src/lib.rt:184:8
 shared-slice-read-if2 : tie.Need-shared-slice-read-if2
 shared-slice-read-if2 c = search needs
 
--- src/lib.rt:185:31
 sub-parse-natural : tie.Need-sub-parse-natural
 sub-parse-natural c = search needs
 
--- src/lib.rt:185:31
 part-parse-natural-start : tie.Need-part-parse-natural-start
 part-parse-natural-start c = search needs
 
--- src/lib.rt:185:31
 part-parse-natural-end : tie.Need-part-parse-natural-end
 part-parse-natural-end c = search needs
 
--- src/lib.rt:185:13
 parse-natural-requires : tie.Need-parse-natural-requires
 parse-natural-requires c κs = search needs
 
--- src/lib.rt:187:20
 negative-requires : tie.Need-negative-requires
 negative-requires c κs = search needs
 
--- src/lib.rt:186:9
 returns-2 : tie.Need-returns-2
-returns-2 c = ?
+returns-2 c = 
+    let w = c .before .before .before .before .before .before .before .args .w .now in
+    let m = c .before .parse-natural in
+    let rest = part-rest w 1 in
+    rw (eq-eqb (getD w 0 0) 45 (c .before .before .before .if2 .taken))
+    (
+      back w64 (c .negative .result) (c .negative .ok) ∙ c .negative .ensures ∙ ap (λ (n : ℕ). negℤ (pos n)) (m .ensures .0 ∙ ap naturalOf rest),
+      m .ensures .1 ∙ ap isNatural rest,
+    )
 
--- src/lib.rt:191:9
 parse-natural-requires-2 : tie.Need-parse-natural-requires-2
 parse-natural-requires-2 c κs = search needs
 
--- src/lib.rt:193:16
 cast-t13 : tie.Need-cast-t13
 cast-t13 c = search needs
 
--- src/lib.rt:175:1
 returns-3 : tie.Need-returns-3
-returns-3 c = ?
+returns-3 c = 
+    let w = c .before .before .before .before .before .before .args .w .now in
+    let m = c .before .parse-natural2 in
+    let small : m .result .value < 2 ^ hbits w64 = omega (arith, m .ensures .2) in
+    rw (ne-eqb (getD w 0 0) 45 (c .before .before .if2 .left)) (toZ-pos w64 small ∙ ap pos (m .ensures .0), m .ensures .1)
 
 pub parse-number-spec : {M : Type 1} → statement M
 parse-number-spec =

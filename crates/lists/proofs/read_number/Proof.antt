@@ -1,34 +1,40 @@
+-- `read_number` meets its contract: the part that the span names is the word.
+-- Assumes nothing.
+use mathlib.Core.Path.{ap, _∙_}
+use mir.Syntax.{w64}
 use borrow.Author.Needs.{needs}
+use Rattle.laws.proofs.Bits.{back}
+use Rattle.lists.specs.Numbers.{isNumber, numberOf}
+use Rattle.lists.proofs.Words.{part-word}
 use Rattle.lists.proofs.read_number.Statement.{statement}
 use Rattle.lists.proofs.read_number.Tie as tie
-use Rattle.lists.proofs.read_number.Reads as reads
-use Rattle.lists.proofs.read_number.Lts as lts
-use Rattle.lists.proofs.parse_number.Reads as parse-number-reads
-use Rattle.lists.proofs.word.Reads as word-reads
 
--- src/lib.rt:202:9
 word-requires : tie.Need-word-requires
 word-requires c κs = search needs
 
--- src/lib.rt:205:26
 sub-parse-number : tie.Need-sub-parse-number
 sub-parse-number c = search needs
 
--- src/lib.rt:205:26
 part-parse-number-start : tie.Need-part-parse-number-start
 part-parse-number-start c = search needs
 
--- src/lib.rt:205:26
 part-parse-number-end : tie.Need-part-parse-number-end
 part-parse-number-end c = search needs
 
--- src/lib.rt:205:9
 parse-number-requires : tie.Need-parse-number-requires
 parse-number-requires c κs = search needs
 
--- src/lib.rt:199:1
 returns : tie.Need-returns
-returns c = ?
+returns c = 
+    let a = c .before .before .before .before .before .args in
+    let w = c .before .before .before .word in
+    let n = c .before .parse-number in
+    let word = part-word (a .s .now) (a .at) (w .result .from) (w .result .end) (w .ensures .0) (w .ensures .1) in
+    record {
+      value = back w64 (n .result .value) (c .struct-told .given .0 .1) ∙ n .ensures .0 ∙ ap numberOf word;
+      next = w .ensures .1;
+      good = n .ensures .1 ∙ ap isNumber word;
+    }
 
 pub read-number-spec : {M : Type 1} → statement M
 read-number-spec =

@@ -1,21 +1,26 @@
+-- `word` meets its contract: two runs, one after the other.
+-- Assumes nothing.
+use mathlib.Core.Path.{ap, _∙_}
 use borrow.Author.Needs.{needs}
+use Rattle.lists.specs.declared.Class.the-variants.{Blank, Word}
+use Rattle.lists.specs.Text.{runEnd}
 use Rattle.lists.proofs.word.Statement.{statement}
 use Rattle.lists.proofs.word.Tie as tie
-use Rattle.lists.proofs.word.Reads as reads
-use Rattle.lists.proofs.word.Lts as lts
-use Rattle.lists.proofs.run.Reads as run-reads
 
--- src/lib.rt:95:9
+limited-requires : tie.Need-limited-requires
+limited-requires c κs = search needs
+
 run-requires : tie.Need-run-requires
-run-requires c κs = ?
+run-requires c κs = search needs
 
--- src/lib.rt:96:9
 run-requires-2 : tie.Need-run-requires-2
 run-requires-2 c κs = search needs
 
--- src/lib.rt:88:1
 returns : tie.Need-returns
-returns c = ?
+returns c = 
+    let s = c .before .before .before .before .args .s .now in
+    let from = c .before .run .ensures .0 ∙ ap (runEnd Blank s) (c .before .before .limited .ensures .0) in
+    (from, c .run2 .ensures .0 ∙ ap (runEnd Word s) from, search needs, search needs)
 
 pub word-spec : {M : Type 1} → statement M
-word-spec = tie.close (tie.spec run-requires run-requires-2 returns)
+word-spec = tie.close (tie.spec limited-requires run-requires run-requires-2 returns)

@@ -1,0 +1,34 @@
+-- Laws of words and other parts of a text.
+-- Assumes nothing.
+use mathlib.Core.Path.{_≡_, ap}
+use mathlib.Core.List.{List}
+use Prim.Native.Nat.{ℕ, _-_, _≤_, _<_}
+use native.Mathlib.Omega.{arith}
+use lib.ListN.{length, getD, take, drop, length-drop}
+use lib.Seq.{length-take-le, take-all}
+use borrow.Author.Tests.{lt-ltb, le-ltb, eq-eqb, ne-eqb}
+use Rattle.lists.specs.declared.Class.the-variants.{Line}
+use Rattle.lists.specs.declared.Next.the-variants.{Case, Comment, End}
+use Rattle.lists.specs.Text.{runEnd, wordStart, wordEnd, wordAt, nextAt}
+
+-- a part s[f..e]: its length, and the part that goes to the end
+pub part-length : (s : List ℕ) (f e : ℕ) → e ≤ length s → length (take (e - f) (drop f s)) ≡ e - f
+part-length s f e h = length-take-le (e - f) (drop f s) (omega (arith, length-drop f s))
+
+pub part-rest : (s : List ℕ) (f : ℕ) → take (length s - f) (drop f s) ≡ drop f s
+part-rest s f = take-all (length s - f) (drop f s) (omega (arith, length-drop f s))
+
+-- the part that a span names is the word
+pub part-word : (s : List ℕ) (at f e : ℕ) → f ≡ wordStart s at → e ≡ wordEnd s at → take (e - f) (drop f s) ≡ wordAt s at
+part-word s at f e p q = rw (q, p)
+
+-- what comes next, where the word starts at f
+module _ (s : List ℕ) (at f : ℕ) (is : f ≡ wordStart s at) where
+  pub next-end : length s ≤ f → End ≡ nextAt s at
+  next-end h = rw (← is, le-ltb f (length s) h)
+
+  pub next-comment : f < length s → getD s f 0 ≡ 35 → (e : ℕ) → e ≡ runEnd Line s f → Comment e ≡ nextAt s at
+  next-comment h b e q = rw (← is, lt-ltb f (length s) h, eq-eqb (getD s f 0) 35 b) (ap Comment q)
+
+  pub next-case : f < length s → (getD s f 0 ≡ 35 → ⊥) → Case f ≡ nextAt s at
+  next-case h b = rw (← is, lt-ltb f (length s) h, ne-eqb (getD s f 0) 35 b)
