@@ -7,13 +7,14 @@ use Prim.Native.Nat.{ℕ, _+_, _*_, _-_, _^_, _≤_, _<_}
 use native.Mathlib.Nat.{pow-suc, pow-le-pow-right}
 use native.Mathlib.Numerals.{add-one}
 use native.Mathlib.Omega.{arith}
-use lib.IntN.{pos}
+use lib.IntN.{ℤ, pos, negsuc}
 use lib.ListN.{length, getD, drop, drop-of-length-le}
 use lib.Seq.{drop-cons}
 use borrow.Author.Tests.{lt-ltb, le-ltb, le-leb, lt-leb, eq-eqb, ne-eqb}
+use Rattle.laws.proofs.Signed.{zp}
 use Rattle.lists.specs.declared.Class.the-variants.{Digit, Hex}
 use Rattle.lists.specs.Text.{inClass, leading}
-use Rattle.lists.specs.Numbers.{digitOf, decimal, isNatural, isNumber, numberOf}
+use Rattle.lists.specs.Numbers.{digitOf, decimal, isNatural, isNumber, numberOf, natOf}
 use Rattle.lists.specs.ByteStrings.{hexOf}
 use Rattle.lists.proofs.Runs.{digit-range, letter-range}
 
@@ -71,3 +72,8 @@ pub number-empty : (w : List ℕ) → length w ≡ 0 → (pos 0 ≡ numberOf w) 
 unfolding leading
 number-empty [] e = (refl, refl)
 number-empty (b ∷ w) e = absurd (omega arith)
+
+-- `natOf` is the positive part of laws
+pub natOf-is : (z : ℤ) → natOf z ≡ zp z
+natOf-is (pos n) = refl
+natOf-is (negsuc n) = refl

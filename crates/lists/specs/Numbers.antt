@@ -4,7 +4,7 @@ use mathlib.Core.Bool.{Bool, _&&_, cond}
 use mathlib.Core.List.{List, [], _∷_}
 use Prim.Native.Nat.{ℕ, _+_, _*_, _-_}
 use lib.Dec.{eqb, leb, ltb}
-use lib.IntN.{ℤ, pos, negℤ}
+use lib.IntN.{ℤ, pos, negsuc, negℤ}
 use lib.ListN.{length, getD, drop}
 use Rattle.lists.specs.declared.Class.the-variants.{Digit}
 use Rattle.lists.specs.declared.Number.{Number}
@@ -40,3 +40,8 @@ pub record NumberAt (s : List ℕ) (at : ℕ) (r : Number) : Type 0 where
   pub value : r .value ≡ numberOf (wordAt s at)
   pub next : r .next ≡ wordEnd s at
   pub good : r .good ≡ isNumber (wordAt s at)
+
+-- the nearest number that is not negative
+abbrev pub natOf : ℤ → ℕ
+natOf (pos n) = n
+natOf (negsuc n) = 0

@@ -2,11 +2,12 @@
 //! that begin with a number sign. A reader takes the text and a place in it and answers with the place after what it read. It takes
 //! every place; where the word there is not what was asked for, `good` is false.
 ghost use mathlib.Core.Path.{_≡_};
-ghost use Prim.Native.Nat.{_+_, _*_, _^_, _/_, _≤_, _<_};
+ghost use Prim.Native.Nat.{_+_, _*_, _^_, _/_, _≤_, _<_, min};
 ghost use lib.IntN.{pos, negℤ};
-ghost use lib.ListN.{length};
+ghost use lib.ListN.{length, take};
+ghost use Rattle.laws.specs.Tabulate.{tabulate};
 ghost use Rattle.lists.specs.Text.{inClass, runEnd, place, wordStart, wordEnd, wordAt, nextAt};
-ghost use Rattle.lists.specs.Numbers.{digitOf, decimal, isNatural, naturalOf, isNumber, numberOf, NumberAt};
+ghost use Rattle.lists.specs.Numbers.{digitOf, decimal, isNatural, naturalOf, isNumber, numberOf, NumberAt, natOf};
 ghost use Rattle.lists.specs.ByteStrings.{hexOf, byteAt, bytesOf, isBytes, stored, BytesAt};
 
 /// Classes of bytes.
@@ -216,6 +217,27 @@ pub fn read_number(s: &[u8], at: usize) -> Number
     }
 }
 
+/// A number as a size, 0 for a negative one.
+pub fn size_of(v: i64) -> usize
+    ensures { λ r. ⌜ r ≡ natOf v ⌝ }
+{
+    if v < 0 {
+        return 0;
+    }
+    v as usize
+}
+
+/// A number as a byte, or the nearest byte where it is none.
+pub fn byte_of(v: i64) -> u8
+    ensures { λ r. ⌜ r ≡ min (natOf v) 255 ⌝ }
+{
+    let n = size_of(v);
+    if n > 255 {
+        return 255;
+    }
+    n as u8
+}
+
 fn hex_digit(b: u8) -> u8
     ensures { λ r. ⌜ (r ≡ hexOf b) × (r ≤ 15) ⌝ }
 {
@@ -286,5 +308,26 @@ pub fn read_bytes(s: &[u8], at: usize, out: &mut [u8]) -> Bytes
         count: count,
         next: end,
         good: true,
+    }
+}
+
+/// The first n bytes, or all where there are fewer.
+pub fn front(s: &[u8], n: usize) -> &[u8]
+    ensures { λ r. ⌜ now r ≡ take n (now (s .entry)) ⌝ }
+{
+    if n > s.len() {
+        return s;
+    }
+    &s[0..n]
+}
+
+/// Makes every byte b.
+pub fn fill(s: &mut [u8], b: u8)
+    ensures { λ r. ⌜ now (s .exit) ≡ tabulate (length (now (s .entry))) (λ k. b) ⌝ }
+{
+    let mut i: usize = 0;
+    while i < s.len() {
+        s[i] = b;
+        i += 1;
     }
 }

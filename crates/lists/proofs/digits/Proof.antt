@@ -20,7 +20,7 @@ loop-holds : tie.Need-loop-holds Inv-loop μ-loop
 loop-holds c = search needs
 
 mul-value : tie.Need-mul-value Inv-loop μ-loop
-mul-value c = 
+mul-value c =
     let l = c .before .loop in
     omega (arith, below-18 (l .value * 10 + 0) (l .i + 1) (below-more (l .value) 0 (l .i) (l .inv .1) (omega arith)) (omega arith))
 
@@ -31,7 +31,7 @@ digit-requires : tie.Need-digit-requires Inv-loop μ-loop
 digit-requires c κs = search needs
 
 add-value : tie.Need-add-value Inv-loop μ-loop
-add-value c = 
+add-value c =
     let l = c .before .before .before .loop in
     let d = c .digit .result in
     omega (arith, below-18 (l .value * 10 + d) (l .i + 1) (below-more (l .value) d (l .i) (l .inv .1) (c .digit .ensures .1)) (omega arith))
@@ -43,18 +43,17 @@ loop-less : tie.Need-loop-less Inv-loop μ-loop
 loop-less c = search needs
 
 loop-again : tie.Need-loop-again Inv-loop μ-loop
-loop-again c = 
+loop-again c =
     let l = c .before .before .before .loop in
     let w = c .before .before .before .before .before .args .w .now in
-    let digit = ap (λ (d : ℕ). decimal (l .value * 10 + d) (drop (l .i + 1) w)) (c .digit .ensures .0) in
-    (
+    let digit = ap (λ (d : ℕ). decimal (l .value * 10 + d) (drop (l .i + 1) w)) (c .digit .ensures .0) in (
       digit ∙ sym (decimal-more (l .value) w (l .i) (search needs)) ∙ l .inv .0,
       below-more (l .value) (c .digit .result) (l .i) (l .inv .1) (c .digit .ensures .1),
       search needs,
     )
 
 returns : tie.Need-returns Inv-loop μ-loop
-returns c = 
+returns c =
     let l = c .before .loop in
     let w = c .before .before .before .args .w .now in
     (sym (decimal-end (l .value) w (l .i) (search needs)) ∙ l .inv .0, below-18 (l .value) (l .i) (l .inv .1) (omega arith))

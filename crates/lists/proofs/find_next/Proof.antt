@@ -9,7 +9,7 @@ word-requires : tie.Need-word-requires
 word-requires c κs = search needs
 
 returns : tie.Need-returns
-returns c = 
+returns c =
     let a = c .before .before .before .args in
     let w = c .before .word in
     next-end (a .s .now) (a .at) (w .result .from) (w .ensures .0) (c .if1 .taken)
@@ -21,14 +21,14 @@ run-requires : tie.Need-run-requires
 run-requires c κs = search needs
 
 returns-2 : tie.Need-returns-2
-returns-2 c = 
+returns-2 c =
     let a = c .before .before .before .before .before .before .args in
     let w = c .before .before .before .before .word in
     let comment = next-comment (a .s .now) (a .at) (w .result .from) (w .ensures .0) in
     comment (c .before .before .before .if1 .left) (c .before .if2 .taken) (c .run .result) (c .run .ensures .0)
 
 returns-3 : tie.Need-returns-3
-returns-3 c = 
+returns-3 c =
     let a = c .before .before .before .before .before .args in
     let w = c .before .before .before .word in
     next-case (a .s .now) (a .at) (w .result .from) (w .ensures .0) (c .before .before .if1 .left) (c .if2 .left)

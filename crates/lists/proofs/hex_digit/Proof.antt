@@ -20,7 +20,7 @@ belongs-requires-2 : tie.Need-belongs-requires-2
 belongs-requires-2 c κs = search needs
 
 sub-result-2 : tie.Need-sub-result-2
-sub-result-2 c = 
+sub-result-2 c =
     let b = c .before .before .before .before .args .b in
     let no = sym (c .before .before .before .belongs .ensures) ∙ c .before .before .if1 .left in
     letter-range b no (sym (c .before .belongs2 .ensures) ∙ c .if2 .taken) .0
@@ -29,13 +29,13 @@ add-result : tie.Need-add-result
 add-result c = search needs
 
 returns-2 : tie.Need-returns-2
-returns-2 c = 
+returns-2 c =
     let b = c .before .before .before .before .args .b in
     let no = sym (c .before .before .before .belongs .ensures) ∙ c .before .before .if1 .left in
     hex-letter b no (sym (c .before .belongs2 .ensures) ∙ c .if2 .taken)
 
 returns-3 : tie.Need-returns-3
-returns-3 c = 
+returns-3 c =
     let b = c .before .before .before .before .args .b in
     let no = sym (c .before .before .before .belongs .ensures) ∙ c .before .before .if1 .left in
     hex-no b no (sym (c .before .belongs2 .ensures) ∙ c .if2 .left)

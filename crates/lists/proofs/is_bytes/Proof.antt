@@ -22,12 +22,12 @@ returns-2 : tie.Need-returns-2
 returns-2 c = let a = c .before .before .before .before .args in sym (bytes-one (a .w .now) (a .room) (c .before .if2 .taken))
 
 returns-3 : tie.Need-returns-3
-returns-3 c = 
+returns-3 c =
     let a = c .before .before .before .before .args in
     sym (bytes-odd (a .w .now) (a .room) (c .before .before .if1 .left) (c .before .if2 .left) (c .if3 .taken))
 
 returns-4 : tie.Need-returns-4
-returns-4 c = 
+returns-4 c =
     let a = c .before .before .before .before .before .args in
     let even = c .before .if3 .left in
     sym (bytes-long (a .w .now) (a .room) (c .before .before .before .if1 .left) (c .before .before .if2 .left) even (c .if4 .taken))
@@ -36,7 +36,7 @@ run-requires : tie.Need-run-requires
 run-requires c κs = search needs
 
 returns-5 : tie.Need-returns-5
-returns-5 c = 
+returns-5 c =
     let t = c .before .before in
     let a = t .before .before .before .before .args in
     let w = a .w .now in

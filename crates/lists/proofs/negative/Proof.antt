@@ -16,14 +16,14 @@ cast-result : tie.Need-cast-result
 cast-result c = search needs
 
 sub-result : tie.Need-sub-result
-sub-result c = 
+sub-result c =
     let v = c .args .value in
     let small : v < 2 ^ hbits w64 = omega arith in
     let d = sub-z (pos 0) (pos v) in
     rw (toZ-pos w64 small) (sfits-z w64 (pos 0 -ℤ pos v) (omega arith) (omega arith))
 
 returns : tie.Need-returns
-returns c = 
+returns c =
     let v = c .args .value in
     let small : v < 2 ^ hbits w64 = omega arith in
     let d = sub-z (pos 0) (pos v) in

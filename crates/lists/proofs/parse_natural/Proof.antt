@@ -21,7 +21,7 @@ run-requires : tie.Need-run-requires
 run-requires c κs = search needs
 
 returns-3 : tie.Need-returns-3
-returns-3 c = 
+returns-3 c =
     let w = c .before .before .before .before .before .args .w .now in
     let no : leading (inClass Digit) w ≡ length w → ⊥ = λ e. c .if3 .taken (omega (arith, c .before .run .ensures .0)) in
     rw (natural-other w (search needs) (search needs) no) (refl, refl, search needs)
@@ -30,7 +30,7 @@ digits-requires : tie.Need-digits-requires
 digits-requires c κs = search needs
 
 returns-4 : tie.Need-returns-4
-returns-4 c = 
+returns-4 c =
     let w = c .before .before .before .before .before .before .args .w .now in
     let all : leading (inClass Digit) w ≡ length w = omega (arith, c .before .before .run .ensures .0) in
     rw (natural-good w (search needs) (search needs) all) (c .digits .ensures .0, refl, c .digits .ensures .1)

@@ -39,12 +39,11 @@ negative-requires : tie.Need-negative-requires
 negative-requires c κs = search needs
 
 returns-2 : tie.Need-returns-2
-returns-2 c = 
+returns-2 c =
     let w = c .before .before .before .before .before .before .before .args .w .now in
     let m = c .before .parse-natural in
     let rest = part-rest w 1 in
-    rw (eq-eqb (getD w 0 0) 45 (c .before .before .before .if2 .taken))
-    (
+    rw (eq-eqb (getD w 0 0) 45 (c .before .before .before .if2 .taken)) (
       back w64 (c .negative .result) (c .negative .ok) ∙ c .negative .ensures ∙ ap (λ (n : ℕ). negℤ (pos n)) (m .ensures .0 ∙ ap naturalOf rest),
       m .ensures .1 ∙ ap isNatural rest,
     )
@@ -56,7 +55,7 @@ cast-t13 : tie.Need-cast-t13
 cast-t13 c = search needs
 
 returns-3 : tie.Need-returns-3
-returns-3 c = 
+returns-3 c =
     let w = c .before .before .before .before .before .before .args .w .now in
     let m = c .before .parse-natural2 in
     let small : m .result .value < 2 ^ hbits w64 = omega (arith, m .ensures .2) in

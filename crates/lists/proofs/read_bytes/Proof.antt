@@ -30,7 +30,7 @@ is-bytes-requires : tie.Need-is-bytes-requires
 is-bytes-requires c κs = search needs
 
 returns : tie.Need-returns
-returns c = 
+returns c =
     let a = c .before .before .before .before .before .before .args in
     let w = c .before .before .before .word in
     let word = part-word (a .s .now) (a .at) (w .result .from) (w .result .end) (w .ensures .0) (w .ensures .1) in
@@ -57,7 +57,7 @@ part-store-start-2 : tie.Need-part-store-start-2
 part-store-start-2 c = search needs
 
 part-store-end-2 : tie.Need-part-store-end-2
-part-store-end-2 c = 
+part-store-end-2 c =
     let a = c .before .before .before .before .before .before .before .args in
     let w = c .before .before .before .before .word in
     let part = take (w .result .end - w .result .from) (drop (w .result .from) (a .s .now)) in
@@ -72,7 +72,7 @@ same-length : tie.Need-same-length
 same-length c = search needs
 
 returns-2 : tie.Need-returns-2
-returns-2 c = 
+returns-2 c =
     let test = c .before .before .before .before .before in
     let w = test .before .before .before .word in
     let a = test .before .before .before .before .before .before .args in
@@ -82,8 +82,7 @@ returns-2 c =
     let is = ap (λ (l : List ℕ). isBytes l (length (a .out .now))) (sym word) ∙ sym (test .before .is-bytes .ensures) in
     let yes = is ∙ not-left _ (test .if1 .left) in
     let long : length (wordAt (a .s .now) (a .at)) ≡ end - from = ap length (sym word) ∙ part-length (a .s .now) from end (w .ensures .3) in
-    let half : (end - from) / 2 ≡ length (wordAt (a .s .now) (a .at)) / 2 = rw long in
-    (
+    let half : (end - from) / 2 ≡ length (wordAt (a .s .now) (a .at)) / 2 = rw long in (
       record {
         count = rw (yes, long);
         next = w .ensures .1;

@@ -25,7 +25,7 @@ parse-number-requires : tie.Need-parse-number-requires
 parse-number-requires c κs = search needs
 
 returns : tie.Need-returns
-returns c = 
+returns c =
     let a = c .before .before .before .before .before .args in
     let w = c .before .before .before .word in
     let n = c .before .parse-number in

@@ -26,7 +26,7 @@ belongs-requires : tie.Need-belongs-requires Inv-loop μ-loop
 belongs-requires c κs = search needs
 
 returns : tie.Need-returns Inv-loop μ-loop
-returns c = 
+returns c =
     let a = c .before .before .before .before .before .before .args in
     let i = c .before .before .before .before .loop .i in
     let no = sym (c .before .belongs .ensures) ∙ not-taken _ (c .if1 .taken) in
@@ -40,7 +40,7 @@ loop-less : tie.Need-loop-less Inv-loop μ-loop
 loop-less c = search needs
 
 loop-again : tie.Need-loop-again Inv-loop μ-loop
-loop-again c = 
+loop-again c =
     let a = c .before .before .before .before .before .before .args in
     let i = c .before .before .before .before .loop .i in
     let yes = sym (c .before .belongs .ensures) ∙ not-left _ (c .if1 .left) in
@@ -48,7 +48,7 @@ loop-again c =
     omega arith
 
 returns-2 : tie.Need-returns-2 Inv-loop μ-loop
-returns-2 c = 
+returns-2 c =
     let a = c .before .before .before .args in
     let end = leading-end (inClass (a .class)) (a .s .now) (c .before .loop .i) (search needs) in
     omega arith

@@ -17,7 +17,7 @@ run-requires-2 : tie.Need-run-requires-2
 run-requires-2 c κs = search needs
 
 returns : tie.Need-returns
-returns c = 
+returns c =
     let s = c .before .before .before .before .args .s .now in
     let from = c .before .run .ensures .0 ∙ ap (runEnd Blank s) (c .before .before .limited .ensures .0) in
     (from, c .run2 .ensures .0 ∙ ap (runEnd Word s) from, search needs, search needs)

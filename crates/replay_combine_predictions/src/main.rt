@@ -1,0 +1,153 @@
+//! Replays the averaging list, which has the Rust's answers, on `combine_predictions`. The list's head says what its fields mean.
+use combine_predictions::Averaged;
+use combine_predictions::PredictionDirection;
+use lists::Next;
+use tally::Tally;
+
+/// A case that was read: whether the port agrees with the list, the place after the case, and whether the line was well formed.
+struct Judged {
+    agrees: bool,
+    next: usize,
+    good: bool,
+}
+
+/// The number of an answer. No refusal has number 0, which is acceptance's: 256 stands for such an answer.
+fn number_of(a: Averaged) -> i64 {
+    match a {
+        Averaged::Done => 0,
+        Averaged::Refused(n) => { if n == 0 { 256 } else { n as i64 } }
+    }
+}
+
+/// Averages, and compares number and output.
+fn averages(forward: &[u8], backward: &[u8], out: &mut [u8], answer: i64, after: &[u8]) -> bool {
+    let number = number_of(combine_predictions::average_predictions(forward, backward, out));
+    (number == answer) & check::same(out, after)
+}
+
+/// `1 FORWARD BACKWARD FILL LENGTH ANSWER AFTER`, from FORWARD on.
+fn averaging(s: &[u8], at: usize) -> Judged {
+    let mut forward = [0u8; 1024];
+    let mut backward = [0u8; 1024];
+    let mut out = [0u8; 1024];
+    let mut after = [0u8; 1024];
+    let f = lists::read_bytes(s, at, &mut forward);
+    let b = lists::read_bytes(s, f.next, &mut backward);
+    let byte = lists::read_number(s, b.next);
+    let length = lists::read_number(s, byte.next);
+    let answer = lists::read_number(s, length.next);
+    let a = lists::read_bytes(s, answer.next, &mut after);
+    let good = f.good & b.good & byte.good & length.good & answer.good & a.good;
+    let n = lists::size_of(length.value);
+    if n > 1024 {
+        return Judged {
+            agrees: false,
+            next: a.next,
+            good: false,
+        };
+    }
+    lists::fill(&mut out[0..n], lists::byte_of(byte.value));
+    let agrees = averages(
+        lists::front(&forward, f.count),
+        lists::front(&backward, b.count),
+        &mut out[0..n],
+        answer.value,
+        lists::front(&after, a.count),
+    );
+    Judged {
+        agrees: agrees,
+        next: a.next,
+        good: good,
+    }
+}
+
+/// The direction with this number in the order of the Rust's enum: Forward 0, Backward 1, Skipped 3.
+fn direction_of(v: i64) -> PredictionDirection {
+    if v == 0 {
+        return PredictionDirection::Forward;
+    }
+    if v == 1 {
+        return PredictionDirection::Backward;
+    }
+    PredictionDirection::Skipped
+}
+
+/// `2 DIRECTION FORWARD BACKWARD RESULT`, from DIRECTION on.
+fn choosing(s: &[u8], at: usize) -> Judged {
+    let mut forward = [0u8; 1024];
+    let mut backward = [0u8; 1024];
+    let mut result = [0u8; 1024];
+    let direction = lists::read_number(s, at);
+    let f = lists::read_bytes(s, direction.next, &mut forward);
+    let b = lists::read_bytes(s, f.next, &mut backward);
+    let r = lists::read_bytes(s, b.next, &mut result);
+    let v = direction.value;
+    let known = (v == 0) | (v == 1) | (v == 3);
+    let chosen = combine_predictions::combine_directional_predictions(
+        direction_of(v),
+        lists::front(&forward, f.count),
+        lists::front(&backward, b.count),
+    );
+    Judged {
+        agrees: check::same(chosen, lists::front(&result, r.count)),
+        next: r.next,
+        good: known & direction.good & f.good & b.good & r.good,
+    }
+}
+
+/// A case by its kind.
+fn case(s: &[u8], at: usize) -> Judged {
+    let kind = lists::read_number(s, at);
+    if kind.value == 1 {
+        return averaging(s, kind.next);
+    }
+    if kind.value == 2 {
+        return choosing(s, kind.next);
+    }
+    Judged {
+        agrees: false,
+        next: kind.next,
+        good: false,
+    }
+}
+
+fn step(s: &[u8], t: Tally) -> Tally {
+    match lists::find_next(s, t.at) {
+        Next::End => tally::stopped(t, true),
+        Next::Comment(next) => tally::passed(t, next),
+        Next::Case(at) => {
+            let j = case(s, at);
+            if j.good {
+                tally::judged(t, j.agrees, j.next)
+            } else {
+                tally::stopped(t, false)
+            }
+        }
+    }
+}
+
+/// Ends after as many turns as the list has bytes and one, if not before.
+fn walk(s: &[u8]) -> Tally {
+    let mut t = tally::start();
+    let mut turns = s.len();
+    while (turns > 0) & t.on {
+        t = step(s, t);
+        turns -= 1;
+    }
+    t
+}
+
+fn replay(buffer: &mut [u8]) {
+    let n = io::read_full(0, buffer);
+    tally::report(walk(&buffer[..n]));
+}
+
+/// A reference to an array is lent as a slice with nothing to show of its length.
+fn lend(buffer: &mut [u8; 1048576]) {
+    replay(buffer);
+}
+
+fn main() {
+    let mut buffer = [0u8; 1048576];
+    lend(&mut buffer);
+}

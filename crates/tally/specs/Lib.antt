@@ -1,0 +1,2 @@
+-- How a replay counts.
+pub mod Counts
