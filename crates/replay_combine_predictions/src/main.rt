@@ -19,17 +19,40 @@ fn number_of(a: Averaged) -> i64 {
     }
 }
 
-/// Averages, and compares number and output.
-fn averages(forward: &[u8], backward: &[u8], out: &mut [u8], answer: i64, after: &[u8]) -> bool {
+/// Averages into an output that is all `byte`, and compares number and output.
+fn averages(
+    forward: &[u8],
+    backward: &[u8],
+    out: &mut [u8],
+    byte: u8,
+    answer: i64,
+    after: &[u8],
+) -> bool {
+    lists::fill(out, byte);
     let number = number_of(combine_predictions::average_predictions(forward, backward, out));
     (number == answer) & check::same(out, after)
+}
+
+/// The same, with an output of so many bytes. No list has a longer one than 1024.
+fn averages_of(
+    forward: &[u8],
+    backward: &[u8],
+    length: usize,
+    byte: u8,
+    answer: i64,
+    after: &[u8],
+) -> bool {
+    let mut out = [0u8; 1024];
+    if length > 1024 {
+        return false;
+    }
+    averages(forward, backward, &mut out[0..length], byte, answer, after)
 }
 
 /// `1 FORWARD BACKWARD FILL LENGTH ANSWER AFTER`, from FORWARD on.
 fn averaging(s: &[u8], at: usize) -> Judged {
     let mut forward = [0u8; 1024];
     let mut backward = [0u8; 1024];
-    let mut out = [0u8; 1024];
     let mut after = [0u8; 1024];
     let f = lists::read_bytes(s, at, &mut forward);
     let b = lists::read_bytes(s, f.next, &mut backward);
@@ -37,27 +60,18 @@ fn averaging(s: &[u8], at: usize) -> Judged {
     let length = lists::read_number(s, byte.next);
     let answer = lists::read_number(s, length.next);
     let a = lists::read_bytes(s, answer.next, &mut after);
-    let good = f.good & b.good & byte.good & length.good & answer.good & a.good;
-    let n = lists::size_of(length.value);
-    if n > 1024 {
-        return Judged {
-            agrees: false,
-            next: a.next,
-            good: false,
-        };
-    }
-    lists::fill(&mut out[0..n], lists::byte_of(byte.value));
-    let agrees = averages(
+    let agrees = averages_of(
         lists::front(&forward, f.count),
         lists::front(&backward, b.count),
-        &mut out[0..n],
+        lists::size_of(length.value),
+        lists::byte_of(byte.value),
         answer.value,
         lists::front(&after, a.count),
     );
     Judged {
         agrees: agrees,
         next: a.next,
-        good: good,
+        good: f.good & b.good & byte.good & length.good & answer.good & a.good,
     }
 }
 
@@ -126,11 +140,14 @@ fn step(s: &[u8], t: Tally) -> Tally {
     }
 }
 
-/// Ends after as many turns as the list has bytes and one, if not before.
+/// Goes through the list. A line takes two bytes or more, so there are turns enough.
 fn walk(s: &[u8]) -> Tally {
     let mut t = tally::start();
     let mut turns = s.len();
-    while (turns > 0) & t.on {
+    while turns > 0 {
+        if !t.on {
+            return t;
+        }
         t = step(s, t);
         turns -= 1;
     }
