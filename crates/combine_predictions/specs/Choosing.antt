@@ -5,8 +5,8 @@ use denote.Ref.{RefT}
 use Rattle.combine_predictions.specs.declared.PredictionDirection.{PredictionDirection}
 use Rattle.combine_predictions.specs.declared.PredictionDirection.the-variants.{Forward, Backward, Skipped}
 
--- the lent slice itself, where it points included, and not a copy of its bytes. A skipped macroblock (7.6.6) has its prediction, by
--- zero vectors, in the forward slice.
+-- the lent slice itself, where it points included, and not a copy of its bytes. Where neither direction is flagged, the prediction
+-- by zero vectors (7.6.3.5) is in the forward slice.
 abbrev pub chosen : PredictionDirection → RefT (List ℕ) → RefT (List ℕ) → RefT (List ℕ)
 chosen Forward forward backward = forward
 chosen Backward forward backward = backward

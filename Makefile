@@ -1,0 +1,28 @@
+# make                 build the demonstration, proved, and run it
+# make test            the gate: prove everything from nothing, try the must-fail edits, run the programs
+# make differential    build the Rust original and see that the lists in the repository are its answers
+# make lists           make those lists anew
+# The last two need cargo and the Rust original. FOZDRIK_RUST is the folder that holds its LICENSE and src/, by default
+# ../shared/docs/src; a relative path starts here.
+
+RT ?= rt
+CARGO ?= cargo
+
+.PHONY: all test differential lists clean
+
+all:
+	@mkdir -p build
+	@$(RT) check demonstration >build/check.log 2>&1 || { tail -n 40 build/check.log; exit 1; }
+	@target/bin/demonstration
+
+test:
+	@.ci/run
+
+differential:
+	cd differential && $(CARGO) run --release --offline --bin lists -- --check
+
+lists:
+	cd differential && $(CARGO) run --release --offline --bin lists
+
+clean:
+	rm -rf build target
