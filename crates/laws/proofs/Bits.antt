@@ -21,14 +21,15 @@ back w z h = toZ-ofZ (record { sfits = h })
 pub widened : (z : ℤ) → SFits w32 z → toZ w64 (ofZ w64 (toZ w32 (ofZ w32 z))) ≡ z
 widened z f = ap (λ (y : ℤ). toZ w64 (ofZ w64 y)) (toZ-ofZ f) ∙ toZ-ofZ (sfits-widen tt f)
 
--- `if z < 0`, taken and left
+-- `if z < 0`, taken
 pub is-neg : {w : Width} {z : ℤ} → SFits w z → ltZ (toZ w (ofZ w z)) (pos 0) ≡ true → (zp z ≡ 0) × (0 < zn z)
 is-neg {w} {z} f e = let h = lt-yes z (pos 0) (rw (toZ-ofZ f) at e) in (zp-zero z (omega arith), omega arith)
 
+-- the same, left
 pub not-neg : {w : Width} {z : ℤ} → SFits w z → ltZ (toZ w (ofZ w z)) (pos 0) ≡ false → zn z ≡ 0
 not-neg {w} {z} f e = zn-zero z (omega (arith, lt-no z (pos 0) (rw (toZ-ofZ f) at e)))
 
--- `z as usize` of a number that is not negative: what it asks, what it gives, and the way back
+-- `z as usize` of a number that is not negative: what it asks
 pub cast-ok : {w w′ : Width} {z : ℤ}
     → SFits w z
     → T (leb (hbits w) (bits w′))
@@ -37,16 +38,19 @@ pub cast-ok : {w w′ : Width} {z : ℤ}
 cast-ok {w} {w′} {z} f t e =
     rw (toZ-ofZ f) (nonNeg-z z (omega arith), fits-bits (hbits w) t (omega (arith, abs-z z, sfits-hi w z f)))
 
+-- what it gives
 pub cast-val : {w : Width} {z : ℤ} → SFits w z → zn z ≡ 0 → natAbs (toZ w (ofZ w z)) ≡ zp z
 cast-val {w} {z} f e = rw (toZ-ofZ f) (omega (arith, abs-z z))
 
+-- and the way back to the number
 pub up-is : {w : Width} (z : ℤ) → SFits w z → zn z ≡ 0 → pos (natAbs (toZ w (ofZ w z))) ≡ z
 up-is {w} z f e = rw (cast-val f e) (eq-z (pos (zp z)) z (omega arith))
 
--- `x == y` goes by the bits: equal bits are equal numbers, and the test is the one of both orders
+-- `x == y` goes by the bits: equal bits are equal numbers
 pub eq-bits : {w : Width} {x y : ℤ} → SFits w x → SFits w y → ofZ w x ≡ ofZ w y → x ≡ y
 eq-bits {w} {x} {y} f g e = sym (toZ-ofZ f) ∙ ap (toZ w) e ∙ toZ-ofZ g
 
+-- the test `x == y` is the one of both orders
 pub eqb-bits : (w : Width) (x y : ℤ) → SFits w x → SFits w y → eqb (ofZ w x) (ofZ w y) ≡ (leZ x y && leZ y x)
 eqb-bits w x y f g = at (eqb (ofZ w x) (ofZ w y)) refl
   where

@@ -16,12 +16,15 @@ pub record Within (n : ℕ) (z : ℤ) : Type 0 where
   pub above : zp z ≤ n + zn z
   pub below : zn z ≤ n + zp z
 
+-- a sum
 pub within-add : {m n : ℕ} {x y : ℤ} → Within m x → Within n y → Within (m + n) (x +ℤ y)
 within-add {x = x} {y = y} p q = let e = add-z x y in record { above = omega arith; below = omega arith }
 
+-- a difference
 pub within-sub : {m n : ℕ} {x y : ℤ} → Within m x → Within n y → Within (m + n) (x -ℤ y)
 within-sub {x = x} {y = y} p q = let e = sub-z x y in record { above = omega arith; below = omega arith }
 
+-- a negation
 pub within-neg : {n : ℕ} {z : ℤ} → Within n z → Within n (negℤ z)
 within-neg {z = z} p = let u = neg-p z in let d = neg-n z in record { above = omega arith; below = omega arith }
 
@@ -57,7 +60,7 @@ within-between {x = x} {y = y} z p q s t =
 pub within-more : {m n : ℕ} {z : ℤ} → Within m z → m ≤ n → Within n z
 within-more p h = record { above = omega arith; below = omega arith }
 
--- into and out of a width
+-- what a width holds, for a chain to start from
 pub fits-within : {w : Width} {z : ℤ} → SFits w z → Within (2 ^ hbits w) z
 fits-within {z = pos a} f = record { above = omega (arith, f .sfits); below = omega arith }
 fits-within {z = negsuc a} f = record { above = omega arith; below = omega (arith, f .sfits) }
@@ -66,5 +69,6 @@ magnitude : {m n : ℕ} (z : ℤ) → Within n z → n < m → mag z < m
 magnitude (pos a) p h = omega arith
 magnitude (negsuc a) p h = omega arith
 
+-- that the chain's end fits a width
 pub within-fits : {w : Width} {n : ℕ} {z : ℤ} → Within n z → n < 2 ^ hbits w → SFits w z
 within-fits {z = z} p h = record { sfits = magnitude z p h }

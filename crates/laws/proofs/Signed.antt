@@ -67,6 +67,7 @@ neg-p (pos zero) = refl
 neg-p (pos (suc n)) = refl
 neg-p (negsuc n) = refl
 
+-- and so for the negative part
 pub neg-n : (x : ℤ) → zn (negℤ x) ≡ zp x
 neg-n (pos zero) = refl
 neg-n (pos (suc n)) = refl
@@ -81,6 +82,7 @@ pub mul-p : (z : ℤ) (k : ℕ) → zp (z *ℤ pos k) ≡ zp z * k
 mul-p (pos n) k = refl
 mul-p (negsuc n) k = neg-p (pos (suc n * k)) ∙ sym (zero-mul k)
 
+-- and so for the negative part
 pub mul-n : (z : ℤ) (k : ℕ) → zn (z *ℤ pos k) ≡ zn z * k
 mul-n (pos n) k = sym (zero-mul k)
 mul-n (negsuc n) k = neg-n (pos (suc n * k))
@@ -90,6 +92,7 @@ pub half-lo : (z : ℤ) → 2 * zp (shrZ z 2) + zn z ≤ zp z + 2 * zn (shrZ z 2
 half-lo (pos n) = omega arith
 half-lo (negsuc n) = omega arith
 
+-- the other half of that
 pub half-hi : (z : ℤ) → zp z + 2 * zn (shrZ z 2) ≤ 2 * zp (shrZ z 2) + zn z + 1
 half-hi (pos n) = omega arith
 half-hi (negsuc n) = omega arith
@@ -99,6 +102,7 @@ pub quot-p : (z : ℤ) → zp (quotZ z (pos 2)) ≡ zp z / 2
 quot-p (pos n) = refl
 quot-p (negsuc n) = neg-p (pos (suc n / 2))
 
+-- and so for the negative part
 pub quot-n : (z : ℤ) → zn (quotZ z (pos 2)) ≡ zn z / 2
 quot-n (pos n) = refl
 quot-n (negsuc n) = neg-n (pos (suc n / 2))
@@ -108,50 +112,58 @@ pub abs-z : (z : ℤ) → natAbs z ≡ zp z + zn z
 abs-z (pos n) = omega arith
 abs-z (negsuc n) = omega arith
 
--- ---- tests: what one that held or failed says, and what makes it hold or fail
+-- ---- the tests that code makes: what one that was made says, and how one will go
 
+-- x < y held
 pub lt-yes : (x y : ℤ) → ltZ x y ≡ true → zp x + zn y < zp y + zn x
 lt-yes (pos a) (pos b) e = omega (arith, ltb-true a b e)
 lt-yes (pos a) (negsuc b) e = let z : _≡_ {A = ℕ} 0 1 = cc in omega arith
 lt-yes (negsuc a) (pos b) e = omega arith
 lt-yes (negsuc a) (negsuc b) e = omega (arith, ltb-true b a e)
 
+-- x < y failed
 pub lt-no : (x y : ℤ) → ltZ x y ≡ false → zp y + zn x ≤ zp x + zn y
 lt-no (pos a) (pos b) e = omega (arith, ltb-false a b e)
 lt-no (pos a) (negsuc b) e = omega arith
 lt-no (negsuc a) (pos b) e = let z : _≡_ {A = ℕ} 0 1 = cc in omega arith
 lt-no (negsuc a) (negsuc b) e = omega (arith, ltb-false b a e)
 
+-- x ≤ y held
 pub le-yes : (x y : ℤ) → leZ x y ≡ true → zp x + zn y ≤ zp y + zn x
 le-yes (pos a) (pos b) e = omega (arith, leb-true a b e)
 le-yes (pos a) (negsuc b) e = let z : _≡_ {A = ℕ} 0 1 = cc in omega arith
 le-yes (negsuc a) (pos b) e = omega arith
 le-yes (negsuc a) (negsuc b) e = omega (arith, leb-true b a e)
 
+-- x ≤ y failed
 pub le-no : (x y : ℤ) → leZ x y ≡ false → zp y + zn x < zp x + zn y
 le-no (pos a) (pos b) e = omega (arith, leb-false a b e)
 le-no (pos a) (negsuc b) e = omega arith
 le-no (negsuc a) (pos b) e = let z : _≡_ {A = ℕ} 0 1 = cc in omega arith
 le-no (negsuc a) (negsuc b) e = omega (arith, leb-false b a e)
 
+-- x < y will hold
 pub yes-lt : (x y : ℤ) → zp x + zn y < zp y + zn x → ltZ x y ≡ true
 yes-lt (pos a) (pos b) h = lt-ltb a b (omega arith)
 yes-lt (pos a) (negsuc b) h = absurd (omega arith)
 yes-lt (negsuc a) (pos b) h = refl
 yes-lt (negsuc a) (negsuc b) h = lt-ltb b a (omega arith)
 
+-- x < y will fail
 pub no-lt : (x y : ℤ) → zp y + zn x ≤ zp x + zn y → ltZ x y ≡ false
 no-lt (pos a) (pos b) h = le-ltb a b (omega arith)
 no-lt (pos a) (negsuc b) h = refl
 no-lt (negsuc a) (pos b) h = absurd (omega arith)
 no-lt (negsuc a) (negsuc b) h = le-ltb b a (omega arith)
 
+-- x ≤ y will hold
 pub yes-le : (x y : ℤ) → zp x + zn y ≤ zp y + zn x → leZ x y ≡ true
 yes-le (pos a) (pos b) h = le-leb a b (omega arith)
 yes-le (pos a) (negsuc b) h = absurd (omega arith)
 yes-le (negsuc a) (pos b) h = refl
 yes-le (negsuc a) (negsuc b) h = le-leb b a (omega arith)
 
+-- x ≤ y will fail
 pub no-le : (x y : ℤ) → zp y + zn x < zp x + zn y → leZ x y ≡ false
 no-le (pos a) (pos b) h = lt-leb a b (omega arith)
 no-le (pos a) (negsuc b) h = refl
@@ -163,16 +175,19 @@ pub nonNeg-z : (z : ℤ) → zn z ≤ zp z → T (nonNeg z)
 nonNeg-z (pos n) h = tt
 nonNeg-z (negsuc n) h = absurd (omega arith)
 
--- ---- what a width holds, both ways
+-- ---- what a width holds
 
+-- a number that fits is below the upper end
 pub sfits-hi : (w : Width) (z : ℤ) → SFits w z → zp z < 2 ^ hbits w + zn z
 sfits-hi w (pos n) h = omega (arith, h .sfits)
 sfits-hi w (negsuc n) h = omega (arith, h .sfits)
 
+-- and not below the lower end
 pub sfits-lo : (w : Width) (z : ℤ) → SFits w z → zn z ≤ 2 ^ hbits w + zp z
 sfits-lo w (pos n) h = omega (arith, h .sfits)
 sfits-lo w (negsuc n) h = omega (arith, h .sfits)
 
+-- a number between the ends fits
 pub sfits-z : (w : Width) (z : ℤ) → zp z < 2 ^ hbits w + zn z → zn z ≤ 2 ^ hbits w + zp z → SFits w z
 sfits-z w (pos n) h k = record { sfits = omega arith }
 sfits-z w (negsuc n) h k = record { sfits = omega arith }
