@@ -38,3 +38,7 @@ pub record BytesAt (s : List ℕ) (at room : ℕ) (r : Bytes) : Type 0 where
   pub good : r .good ≡ isBytes (wordAt s at) room
   -- follows from the count, and is what a caller's out[0..count] asks
   pub within : r .count ≤ room
+
+-- the bytes b, b + 1 and so on, modulo 256
+abbrev pub ramp : ℕ → ℕ → ℕ
+ramp b k = (b + k % 256) % 256

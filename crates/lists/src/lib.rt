@@ -4,15 +4,16 @@
 ghost use mathlib.Core.Path.{_≡_};
 ghost use Prim.Native.Nat.{_+_, _*_, _^_, _/_, _≤_, _<_, min};
 ghost use lib.IntN.{pos, negℤ};
-ghost use lib.ListN.{length, take};
+ghost use lib.ListN.{length, take, drop};
 ghost use Rattle.laws.specs.Tabulate.{tabulate};
-ghost use Rattle.lists.specs.Text.{inClass, runEnd, place, wordStart, wordEnd, wordAt, nextAt};
+ghost use Rattle.lists.specs.Text.{inClass, runEnd, place, wordStart, wordEnd, wordAt, lineEnds, nextAt};
 ghost use Rattle.lists.specs.Numbers.{digitOf, decimal, isNatural, naturalOf, isNumber, numberOf, NumberAt, natOf};
-ghost use Rattle.lists.specs.ByteStrings.{hexOf, byteAt, bytesOf, isBytes, stored, BytesAt};
+ghost use Rattle.lists.specs.ByteStrings.{hexOf, bytesOf, isBytes, stored, ramp, BytesAt};
 
 /// Classes of bytes.
 enum Class {
     Blank,
+    Space,
     Word,
     Line,
     Digit,
@@ -63,7 +64,8 @@ fn belongs(class: Class, b: u8) -> bool
     ensures { λ r. ⌜ r ≡ inClass class b ⌝ }
 {
     match class {
-        Class::Blank => (b == b' ') | (b == b'\n'),
+        Class::Blank => b == b' ',
+        Class::Space => (b == b' ') | (b == b'\n'),
         Class::Word => !((b == b' ') | (b == b'\n')),
         Class::Line => !(b == b'\n'),
         Class::Digit => (b'0' <= b) & (b <= b'9'),
@@ -111,8 +113,7 @@ fn word(s: &[u8], at: usize) -> Span
 pub fn find_next(s: &[u8], at: usize) -> Next
     ensures { λ r. ⌜ r ≡ nextAt (now (s .entry)) at ⌝ }
 {
-    let w = word(s, at);
-    let from = w.from;
+    let from = run(Class::Space, s, limited(s, at));
     if from >= s.len() {
         return Next::End;
     }
@@ -120,6 +121,16 @@ pub fn find_next(s: &[u8], at: usize) -> Next
         return Next::Comment(run(Class::Line, s, from));
     }
     Next::Case(from)
+}
+
+/// Whether a line ends at `at`: every case is to end its line.
+pub fn line_ends(s: &[u8], at: usize) -> bool
+    ensures { λ r. ⌜ r ≡ lineEnds (now (s .entry)) at ⌝ }
+{
+    if at < s.len() {
+        return s[at] == b'\n';
+    }
+    true
 }
 
 fn digit(b: u8) -> u64
@@ -321,13 +332,27 @@ pub fn front(s: &[u8], n: usize) -> &[u8]
     &s[0..n]
 }
 
-/// Makes every byte b.
+/// The bytes behind the first n.
+pub fn behind(s: &[u8], n: usize) -> &[u8]
+    ensures { λ r. ⌜ now r ≡ drop n (now (s .entry)) ⌝ }
+{
+    let from = limited(s, n);
+    &s[from..]
+}
+
+fn sum_of(b: u8, i: usize) -> u8
+    ensures { λ r. ⌜ r ≡ ramp b i ⌝ }
+{
+    ((b as usize + i % 256) % 256) as u8
+}
+
+/// Makes the bytes b, b + 1 and so on, modulo 256: what a buffer holds before a call, so that no two neighbours are alike.
 pub fn fill(s: &mut [u8], b: u8)
-    ensures { λ r. ⌜ now (s .exit) ≡ tabulate (length (now (s .entry))) (λ k. b) ⌝ }
+    ensures { λ r. ⌜ now (s .exit) ≡ tabulate (length (now (s .entry))) (ramp b) ⌝ }
 {
     let mut i: usize = 0;
     while i < s.len() {
-        s[i] = b;
+        s[i] = sum_of(b, i);
         i += 1;
     }
 }

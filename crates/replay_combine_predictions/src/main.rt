@@ -1,6 +1,8 @@
 //! Replays the averaging list, which has the Rust's answers, on `combine_predictions`. The list's head says what its fields mean.
 use combine_predictions::Averaged;
 use combine_predictions::PredictionDirection;
+use libc::STDIN_FILENO;
+use libc::STDOUT_FILENO;
 use lists::Next;
 use tally::Tally;
 
@@ -19,18 +21,30 @@ fn number_of(a: Averaged) -> i64 {
     }
 }
 
-/// Averages into an output that is all `byte`, and compares number and output.
-fn averages(
+/// Averages, and compares number and output.
+fn averages(forward: &[u8], backward: &[u8], out: &mut [u8], answer: i64, after: &[u8]) -> bool {
+    let number = number_of(combine_predictions::average_predictions(forward, backward, out));
+    (number == answer) & check::same(out, after)
+}
+
+/// The same, with the first bytes of `room` as the output. Those behind them have to stay as they are, which is as in `kept`.
+fn averages_in(
     forward: &[u8],
     backward: &[u8],
-    out: &mut [u8],
+    room: &mut [u8],
+    kept: &mut [u8],
+    length: usize,
     byte: u8,
     answer: i64,
     after: &[u8],
 ) -> bool {
-    lists::fill(out, byte);
-    let number = number_of(combine_predictions::average_predictions(forward, backward, out));
-    (number == answer) & check::same(out, after)
+    if length > room.len() {
+        return false;
+    }
+    lists::fill(room, byte);
+    lists::fill(kept, byte);
+    let agrees = averages(forward, backward, &mut room[0..length], answer, after);
+    agrees & check::same(lists::behind(room, length), lists::behind(kept, length))
 }
 
 /// The same, with an output of so many bytes. No list has a longer one than 1024.
@@ -42,11 +56,18 @@ fn averages_of(
     answer: i64,
     after: &[u8],
 ) -> bool {
-    let mut out = [0u8; 1024];
-    if length > 1024 {
-        return false;
-    }
-    averages(forward, backward, &mut out[0..length], byte, answer, after)
+    let mut room = [0u8; 1040];
+    let mut kept = [0u8; 1040];
+    averages_in(
+        forward,
+        backward,
+        &mut room,
+        &mut kept,
+        length,
+        byte,
+        answer,
+        after,
+    )
 }
 
 /// `1 FORWARD BACKWARD FILL LENGTH ANSWER AFTER`, from FORWARD on.
@@ -60,6 +81,9 @@ fn averaging(s: &[u8], at: usize) -> Judged {
     let length = lists::read_number(s, byte.next);
     let answer = lists::read_number(s, length.next);
     let a = lists::read_bytes(s, answer.next, &mut after);
+    let v = byte.value;
+    let n = length.value;
+    let in_range = (v >= 0) & (v <= 255) & (n >= 0) & (n <= 1024);
     let agrees = averages_of(
         lists::front(&forward, f.count),
         lists::front(&backward, b.count),
@@ -71,7 +95,7 @@ fn averaging(s: &[u8], at: usize) -> Judged {
     Judged {
         agrees: agrees,
         next: a.next,
-        good: f.good & b.good & byte.good & length.good & answer.good & a.good,
+        good: f.good & b.good & byte.good & length.good & answer.good & a.good & in_range,
     }
 }
 
@@ -125,13 +149,14 @@ fn case(s: &[u8], at: usize) -> Judged {
     }
 }
 
+/// Goes one line further. A case has to end its line.
 fn step(s: &[u8], t: Tally) -> Tally {
     match lists::find_next(s, t.at) {
         Next::End => tally::stopped(t, true),
         Next::Comment(next) => tally::passed(t, next),
         Next::Case(at) => {
             let j = case(s, at);
-            if j.good {
+            if j.good & lists::line_ends(s, j.next) {
                 tally::judged(t, j.agrees, j.next)
             } else {
                 tally::stopped(t, false)
@@ -140,7 +165,7 @@ fn step(s: &[u8], t: Tally) -> Tally {
     }
 }
 
-/// Goes through the list. A line takes two bytes or more, so there are turns enough.
+/// Goes through the list. A line takes two bytes or more, its line feed included, so that there are turns enough.
 fn walk(s: &[u8]) -> Tally {
     let mut t = tally::start();
     let mut turns = s.len();
@@ -154,12 +179,17 @@ fn walk(s: &[u8]) -> Tally {
     t
 }
 
+/// Reads the list and goes through it. A list that fills the buffer may go on behind it.
 fn replay(buffer: &mut [u8]) {
-    let n = io::read_full(0, buffer);
+    let n = io::read_full(STDIN_FILENO, buffer);
+    if n == buffer.len() {
+        io::write_all(STDOUT_FILENO, b"the list is too long\n");
+        return;
+    }
     tally::report(walk(&buffer[..n]));
 }
 
-/// A reference to an array is lent as a slice with nothing to show of its length.
+/// Lends the array as a slice: the prover takes the array's length from its type here, and in `main` would have to count it.
 fn lend(buffer: &mut [u8; 1048576]) {
     replay(buffer);
 }

@@ -1,11 +1,10 @@
 //! The count that every replay keeps, and its report.
 ghost use mathlib.Core.Path.{_≡_};
-ghost use mathlib.Core.Bool.{true, false};
 ghost use Rattle.tally.specs.Counts.{none, afterComment, afterCase, atEnd};
 use libc::STDOUT_FILENO;
 
-/// The place in the list, the lines and the cases so far, the cases that agree, whether to go on, and whether the list is well formed
-/// so far.
+/// The place in the list, the lines so far (comments and cases: a list has no empty line), the cases, those that agree, whether to go
+/// on, and whether the list is well formed so far.
 pub struct Tally {
     pub at: usize,
     pub lines: u64,
@@ -93,8 +92,7 @@ pub fn stopped(t: Tally, good: bool) -> Tally
     }
 }
 
-/// Writes the counts, and where a list is not well formed the line where it stops to be. Whether all is well: that the list was read
-/// to its end.
+/// Writes the counts, and the first line that is not well formed, where there is one. Answers whether there was none.
 pub fn report(t: Tally) -> bool
     ensures { λ r. ⌜ r ≡ t .good ⌝ }
 {

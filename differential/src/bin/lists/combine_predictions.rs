@@ -9,7 +9,7 @@ use oracle::combine_predictions::{
 };
 use oracle::rng::Rng;
 
-use crate::list::{COMMIT, Hex, List};
+use crate::list::{Hex, List, ORIGINAL};
 
 const SEED: u64 = 767;
 
@@ -29,7 +29,8 @@ const ONE_SIDED: [PredictionDirection; 3] = [
 const FIELDS: &str = "\
 1 FORWARD BACKWARD FILL LENGTH ANSWER AFTER
   average_predictions of FORWARD and BACKWARD into an output that holds LENGTH bytes before
-  the call, all of them FILL. ANSWER is 0 or the refusal's number, AFTER the output after it.
+  the call: FILL, FILL + 1 and so on, modulo 256. ANSWER is 0 or the refusal's number, AFTER
+  the output after it.
 2 DIRECTION FORWARD BACKWARD RESULT
   combine_directional_predictions. DIRECTION is 0 Forward, 1 Backward, 3 Skipped, as the
   original's enum counts them; 2, Bidirectional, is not in the port's kind.";
@@ -37,7 +38,8 @@ const FIELDS: &str = "\
 pub fn list() -> List {
     let made = format!(
         "Answers of average_predictions and combine_directional_predictions
-(src/combine_predictions.rs of OxideAV/oxideav-mpeg12video at commit {COMMIT}, unchanged,
+(src/combine_predictions.rs of
+{ORIGINAL},
 release build) to inputs drawn by splitmix64 from the seed {SEED}.
 The original returns a new vector, or None where the lengths differ. What follows from the
 output being lent is document 01's, the scope paper's: the number 19 for that None, the
@@ -75,7 +77,7 @@ impl Averaging {
     /// Asks the original, and document 01 for what comes of the lent output.
     fn ask(rng: &mut Rng, forward: Vec<u8>, backward: Vec<u8>, length: usize) -> Self {
         let fill = telling_fill(rng, &forward, &backward);
-        let unchanged = vec![fill; length];
+        let unchanged = ramp(fill, length);
         let (answer, after) = match average_predictions(&forward, &backward) {
             None => (LENGTHS_DIFFER, unchanged),
             Some(_) if length != forward.len() => (OUTPUT_LENGTH, unchanged),
@@ -113,15 +115,26 @@ impl Display for Averaging {
     }
 }
 
-/// A byte, not 0, that is none of the means, where there is one: a sample that should have
-/// been written and was not shows, and so does one that should not have been and was.
+/// What an output holds before the call.
+fn ramp(fill: u8, length: usize) -> Vec<u8> {
+    (0..=u8::MAX)
+        .cycle()
+        .skip(fill.into())
+        .take(length)
+        .collect()
+}
+
+/// A first byte of the output with which no mean is what the output holds at its place, where
+/// there is one: a sample that should have been written and was not shows, and so does one that
+/// should not have been and was.
 fn telling_fill(rng: &mut Rng, forward: &[u8], backward: &[u8]) -> u8 {
     let both = forward.len().min(backward.len());
     let means = average_predictions(&forward[..both], &backward[..both]).unwrap_or_default();
+    let apart = |fill: &u8| iter::zip(&means, ramp(*fill, both)).all(|(mean, held)| *mean != held);
     let first = rng.byte();
     (0..=u8::MAX)
         .map(|step| first.wrapping_add(step))
-        .find(|fill| *fill != 0 && !means.contains(fill))
+        .find(apart)
         .unwrap_or(first)
 }
 
@@ -207,8 +220,9 @@ fn extreme(rng: &mut Rng) -> u8 {
 fn equal_lengths(list: &mut List, rng: &mut Rng) {
     const SHORT: [Draw; 4] = [Draw::Uniform, Draw::Extreme, Draw::OddSums, Draw::EvenSums];
     const LONG: [Draw; 2] = [Draw::Uniform, Draw::Extreme];
-    const LONG_LENGTHS: [usize; 13] =
-        [63, 64, 65, 127, 128, 129, 255, 256, 257, 383, 384, 511, 512];
+    const LONG_LENGTHS: [usize; 15] = [
+        63, 64, 65, 127, 128, 129, 255, 256, 257, 383, 384, 511, 512, 1023, 1024,
+    ];
 
     list.group("b. inputs of equal lengths, outputs that fit");
     let short = (1..=40).flat_map(|length| SHORT.map(|how| (length, how)));

@@ -2,11 +2,15 @@
 
 use std::fmt::{self, Display};
 
-/// The original's commit.
-pub const COMMIT: &str = "57648ece95";
+/// Where the original's files are from.
+pub const ORIGINAL: &str =
+    "OxideAV/oxideav-mpeg12video at commit 57648ece95, tests and some items cut";
 
 /// No byte string of a list is longer: the replay programs may rely on it.
 const LONGEST: usize = 1024;
+
+/// No list is longer: the replay programs read it into a buffer that holds a byte more.
+const LARGEST: usize = (1 << 20) - 1;
 
 /// What every list says of its format.
 const NOTATION: &str = "\
@@ -79,6 +83,10 @@ impl List {
         );
         self.text.push_str(line);
         self.text.push('\n');
+        assert!(
+            self.text.len() <= LARGEST,
+            "the list is longer than {LARGEST} bytes"
+        );
     }
 }
 

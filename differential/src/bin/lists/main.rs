@@ -107,7 +107,11 @@ fn difference(place: &Path, text: &str) -> Result<Option<String>, String> {
     }
     // The text is ASCII: what is not UTF-8 in the file differs from it as well.
     let committed = String::from_utf8_lossy(&committed);
-    let lines = || committed.split('\n').zip(text.split('\n'));
+    let lines = || {
+        committed
+            .split_inclusive('\n')
+            .zip(text.split_inclusive('\n'))
+    };
     let line = lines().take_while(|(there, here)| there == here).count();
     let column = lines().nth(line).map_or(0, |(there, here)| {
         let pairs = there.chars().zip(here.chars());
@@ -126,7 +130,7 @@ fn difference(place: &Path, text: &str) -> Result<Option<String>, String> {
 fn excerpt(text: &str, line: usize, column: usize) -> String {
     const BEFORE: usize = 20;
     const SHOWN: usize = 80;
-    match text.split('\n').nth(line) {
+    match text.split_inclusive('\n').nth(line) {
         None => "the end of the file".to_owned(),
         Some(line) => {
             let start = column.saturating_sub(BEFORE);
