@@ -1,9 +1,10 @@
 -- Laws of averaging, for the proof of the call and for the layers above.
 -- Assumes nothing.
-use mathlib.Core.Path.{_≡_, refl}
+use mathlib.Core.Path.{_≡_, refl, ap}
 use Prim.Native.Nat.{ℕ, zero, suc, _+_, _/_, _<_}
 use native.Mathlib.Omega.{arith}
 use borrow.Author.Tests.{eq-eqb, ne-eqb}
+use Rattle.combine_predictions.specs.declared.Averaged.the-variants.{Refused}
 use Rattle.combine_predictions.specs.Refusals.{wrongLength, lengthsDiffer}
 use Rattle.combine_predictions.specs.Averaging.{mean2, averageRefusal, numberOf, answerOf}
 
@@ -15,10 +16,15 @@ mean2-is a b = refl
 pub mean2-byte : (a b : ℕ) → a < 256 → b < 256 → mean2 a b < 256
 mean2-byte a b h k = omega arith
 
--- an answer's number is the one that it was made of, so that no refusal has number 0
+-- an answer's number is the one that it was made of
 pub number-answer : (n : ℕ) → numberOf (answerOf n) ≡ n
 number-answer zero = refl
 number-answer (suc n) = refl
+
+-- no answer is a refusal with number 0
+pub never-refused-0 : (n : ℕ) → answerOf n ≡ Refused 0 → ⊥
+never-refused-0 zero e = let z : _≡_ {A = ℕ} 0 1 = cc in omega arith
+never-refused-0 (suc n) e = let z : suc n ≡ 0 = ap numberOf e in omega arith
 
 -- inputs of f and b bytes and an output of o: when each number is given
 module _ (f b o : ℕ) where

@@ -1,4 +1,4 @@
--- ISO/IEC 13818-2, 7.6.7.1: the mean of the forward and the backward prediction.
+-- ISO/IEC 13818-2, 7.6.7.1 and 7.6.7.2: the mean of the forward and the backward prediction, of frames and of fields alike.
 use mathlib.Core.Bool.{not}
 use mathlib.Core.List.{List}
 use Prim.Native.Nat.{ℕ, zero, suc, _+_}

@@ -1,4 +1,4 @@
--- ISO/IEC 13818-2, 7.6.7.1: where there is one direction alone, its prediction is the macroblock's.
+-- ISO/IEC 13818-2, 7.6.7.1 and 7.6.7.2: where there is one direction alone, its prediction is the macroblock's.
 use mathlib.Core.List.{List}
 use Prim.Native.Nat.{ℕ}
 use denote.Ref.{RefT}

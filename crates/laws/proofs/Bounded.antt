@@ -45,7 +45,7 @@ pub within-half : {n : ℕ} {z : ℤ} → Within n z → Within ((n + 1) / 2) (s
 within-half {z = z} p = let a = half-lo z in let b = half-hi z in record { above = omega arith; below = omega arith }
 
 -- half, truncated
-pub within-quot : {n : ℕ} {z : ℤ} → Within n z → Within n (quotZ z (pos 2))
+pub within-quot : {n : ℕ} {z : ℤ} → Within n z → Within (n / 2) (quotZ z (pos 2))
 within-quot {z = pos a} p = let u = quot-p (pos a) in let d = quot-n (pos a) in record { above = omega arith; below = omega arith }
 within-quot {z = negsuc a} p =
     let u = quot-p (negsuc a) in let d = quot-n (negsuc a) in record { above = omega arith; below = omega arith }

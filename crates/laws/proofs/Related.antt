@@ -3,27 +3,27 @@
 use mathlib.Core.Path.{_≡_, sym, _∙_}
 use mathlib.Core.Bool.{Bool, true, false, cond}
 use mathlib.Core.List.{List, [], _∷_, _++_}
-use Prim.Native.Nat.{ℕ, zero, suc}
+use Prim.Native.Nat.{ℕ, zero, suc, _<_}
 use native.Mathlib.Omega.{arith}
 use lib.ListN.{length, getD, length-append}
 use Rattle.laws.specs.Tabulate.{tabulate}
 use Rattle.laws.proofs.Tabulated.{length-tab}
 
--- one length, and R at every index; past the end both read 0
+-- one length, and R at every index; past the end both read 0, so that R 0 0 is asked too
 pub record Related (R : ℕ → ℕ → Type 0) (xs ys : List ℕ) : Type 0 where
   pub same : length xs ≡ length ys
   pub at : (i : ℕ) → R (getD xs i 0) (getD ys i 0)
 
 module _ (R : ℕ → ℕ → Type 0) (z : R 0 0) where
   tab-at : (n : ℕ) (f g : ℕ → ℕ)
-      → ((k : ℕ) → R (f k) (g k)) → (i : ℕ) → R (getD (tabulate n f) i 0) (getD (tabulate n g) i 0)
+      → ((k : ℕ) → k < n → R (f k) (g k)) → (i : ℕ) → R (getD (tabulate n f) i 0) (getD (tabulate n g) i 0)
   unfolding tabulate
   tab-at zero f g h i = z
-  tab-at (suc n) f g h zero = h zero
-  tab-at (suc n) f g h (suc i) = tab-at n (λ k. f (suc k)) (λ k. g (suc k)) (λ k. h (suc k)) i
+  tab-at (suc n) f g h zero = h zero (omega arith)
+  tab-at (suc n) f g h (suc i) = tab-at n (λ k. f (suc k)) (λ k. g (suc k)) (λ k l. h (suc k) (omega arith)) i
 
   -- related rules give related lists: one rule in two arithmetics
-  pub related-tab : (n : ℕ) (f g : ℕ → ℕ) → ((k : ℕ) → R (f k) (g k)) → Related R (tabulate n f) (tabulate n g)
+  pub related-tab : (n : ℕ) (f g : ℕ → ℕ) → ((k : ℕ) → k < n → R (f k) (g k)) → Related R (tabulate n f) (tabulate n g)
   related-tab n f g h = record { same = length-tab n f ∙ sym (length-tab n g); at = tab-at n f g h }
 
 module _ (R : ℕ → ℕ → Type 0) where

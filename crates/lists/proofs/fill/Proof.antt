@@ -1,6 +1,6 @@
 -- `fill` meets its contract: after i turns the first i bytes are written.
 -- Assumes nothing.
-use Prim.Native.Nat.{ℕ, _-_}
+use Prim.Native.Nat.{_-_}
 use native.Mathlib.Omega.{arith}
 use mathlib.Core.Path.{refl}
 use borrow.Author.Needs.{needs}

@@ -6,7 +6,7 @@ use mathlib.Core.Path.{_∙_}
 use borrow.Author.Needs.{needs}
 use lib.IntN.{pos, negℤ, _-ℤ_}
 use mir.Syntax.{w64}
-use mir.Val.{SFits, hbits}
+use mir.Val.{hbits}
 use mir.Facts.{toZ-ofZ, toZ-pos}
 use Rattle.laws.proofs.Signed.{eq-z, sub-z, neg-p, neg-n, sfits-z}
 use Rattle.lists.proofs.negative.Statement.{statement}

@@ -2,14 +2,14 @@
 -- Assumes nothing.
 use Prim.Native.Nat.{ℕ, _<_, _^_}
 use native.Mathlib.Omega.{arith}
-use mathlib.Core.Path.{_≡_, refl, ap, _∙_}
+use mathlib.Core.Path.{ap, _∙_}
 use borrow.Author.Needs.{needs}
-use lib.IntN.{ℤ, pos, negℤ}
+use lib.IntN.{pos, negℤ}
 use mir.Syntax.{w64}
 use mir.Val.{hbits}
 use mir.Facts.{toZ-pos}
 use borrow.Author.Tests.{eq-eqb, ne-eqb}
-use lib.ListN.{length, getD}
+use lib.ListN.{getD}
 use Rattle.laws.proofs.Bits.{back}
 use Rattle.lists.specs.Numbers.{isNatural, naturalOf}
 use Rattle.lists.proofs.Words.{part-rest}
