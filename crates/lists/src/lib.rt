@@ -98,10 +98,17 @@ fn run(class: Class, s: &[u8], at: usize) -> usize
     i
 }
 
+/// The same from any place.
+fn run_from(class: Class, s: &[u8], at: usize) -> usize
+    ensures { λ r. ⌜ (r ≡ runEnd class (now (s .entry)) (place (now (s .entry)) at)) × (r ≤ length (now (s .entry))) ⌝ }
+{
+    run(class, s, limited(s, at))
+}
+
 fn word(s: &[u8], at: usize) -> Span
     ensures { λ r. ⌜ (r .from ≡ wordStart (now (s .entry)) at) × (r .end ≡ wordEnd (now (s .entry)) at) × (r .from ≤ r .end) × (r .end ≤ length (now (s .entry))) ⌝ }
 {
-    let from = run(Class::Blank, s, limited(s, at));
+    let from = run_from(Class::Blank, s, at);
     let end = run(Class::Word, s, from);
     Span {
         from: from,
@@ -113,7 +120,7 @@ fn word(s: &[u8], at: usize) -> Span
 pub fn find_next(s: &[u8], at: usize) -> Next
     ensures { λ r. ⌜ r ≡ nextAt (now (s .entry)) at ⌝ }
 {
-    let from = run(Class::Space, s, limited(s, at));
+    let from = run_from(Class::Space, s, at);
     if from >= s.len() {
         return Next::End;
     }
