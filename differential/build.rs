@@ -1,18 +1,23 @@
 //! Writes `oracle.rs`, the declarations that make the ten files of the original
 //! modules of the library. They are compiled where they lie: neither copied nor edited.
+//! With the feature `bench`, hands the port's library to the linker.
 
 use std::env;
 use std::error::Error;
 use std::fmt::Write;
 use std::fs;
-use std::path::Path;
+use std::path::{Path, PathBuf};
 
 /// Names the folder that holds the original's `LICENSE` and `src/`.
-const VARIABLE: &str = "FOZDRIK_RUST";
+const ORIGINAL: &str = "FOZDRIK_RUST";
+/// Where that folder is if the variable is not set. Relative paths, this one, the
+/// variable's and those of the library, start at the root of the repository.
+const ORIGINAL_DEFAULT: &str = "../shared/docs/src";
 
-/// Where that folder is if the variable is not set. Relative paths, this one and
-/// the variable's, start at the root of the repository.
-const DEFAULT: &str = "../shared/docs/src";
+/// Names the folder that holds the port's library.
+const LIBRARY: &str = "FOZDRIK_LIBRARY";
+const LIBRARY_DEFAULT: &str = "build/bench";
+const LIBRARY_FILE: &str = "libbench_blocks.a";
 
 const MODULES: [&str; 10] = [
     "combine_predictions",
@@ -28,40 +33,69 @@ const MODULES: [&str; 10] = [
 ];
 
 fn main() {
-    println!("cargo::rerun-if-env-changed={VARIABLE}");
-    if let Err(message) = write_declarations() {
+    if let Err(message) = write_declarations().and_then(|()| link_library()) {
         println!("cargo::error={message}");
     }
 }
 
 fn write_declarations() -> Result<(), Box<dyn Error>> {
-    let package = env::var("CARGO_MANIFEST_DIR")?;
-    let root = Path::new(&package)
-        .parent()
-        .ok_or("the package has no folder above it")?;
-    let given = env::var(VARIABLE).unwrap_or_else(|_| DEFAULT.to_owned());
-    let folder = root.join(&given).join("src");
-
+    let (given, folder) = folder(ORIGINAL, ORIGINAL_DEFAULT)?;
     let mut declarations = String::new();
     for module in MODULES {
-        let file = folder.join(module).with_extension("rs");
-        println!("cargo::rerun-if-changed={}", file.display());
-        let file = file.canonicalize().map_err(|cause| {
+        let file = folder.join("src").join(module).with_extension("rs");
+        let file = there(&file).map_err(|cause| {
             format!(
-                "the Rust original is not there: {} ({cause}). Set {VARIABLE} to the folder \
-                 that holds its LICENSE and src/ (now {given:?}; a relative path starts at \
-                 the root of the repository)",
-                file.display(),
+                "the Rust original is not there: {cause}. Set {ORIGINAL} to the folder that \
+                 holds its LICENSE and src/ (now {given:?}; a relative path starts at the \
+                 root of the repository)",
             )
         })?;
-        let path = file.to_str().ok_or("the original's path is not UTF-8")?;
         // Not ours to lint; and what only the rest of the original uses is unused here.
         writeln!(declarations, "#[allow(dead_code, clippy::all)]")?;
-        writeln!(declarations, "#[path = {path:?}]")?;
+        writeln!(declarations, "#[path = {file:?}]")?;
         writeln!(declarations, "pub mod {module};")?;
     }
 
     let place = Path::new(&env::var("OUT_DIR")?).join("oracle.rs");
     fs::write(place, declarations)?;
     Ok(())
+}
+
+fn link_library() -> Result<(), Box<dyn Error>> {
+    if env::var_os("CARGO_FEATURE_BENCH").is_none() {
+        return Ok(());
+    }
+    let (given, folder) = folder(LIBRARY, LIBRARY_DEFAULT)?;
+    let file = there(&folder.join(LIBRARY_FILE)).map_err(|cause| {
+        format!(
+            "the port's library is not there: {cause}. Set {LIBRARY} to the folder that holds \
+             {LIBRARY_FILE} (now {given:?}; a relative path starts at the root of the \
+             repository)",
+        )
+    })?;
+    // The binary alone: a library that cargo links goes into `oracle`, and so into `lists`.
+    println!("cargo::rustc-link-arg-bin=bench={file}");
+    Ok(())
+}
+
+/// The folder that a variable names, as given and from the root of the repository.
+fn folder(variable: &str, default: &str) -> Result<(String, PathBuf), Box<dyn Error>> {
+    println!("cargo::rerun-if-env-changed={variable}");
+    let package = env::var("CARGO_MANIFEST_DIR")?;
+    let root = Path::new(&package)
+        .parent()
+        .ok_or("the package has no folder above it")?;
+    let given = env::var(variable).unwrap_or_else(|_| default.to_owned());
+    let folder = root.join(&given);
+    Ok((given, folder))
+}
+
+/// The whole path of a file, whose changes are watched; or what is wrong with it.
+fn there(file: &Path) -> Result<String, String> {
+    println!("cargo::rerun-if-changed={}", file.display());
+    let whole = file
+        .canonicalize()
+        .map_err(|cause| format!("{} ({cause})", file.display()))?;
+    let path = whole.to_str().ok_or("its path is not UTF-8")?;
+    Ok(path.to_owned())
 }

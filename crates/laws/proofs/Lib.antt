@@ -1,7 +1,10 @@
--- Laws for the proofs of other crates: signed numbers as linear facts, tabulated lists and the loops that write them, related lists.
+-- Laws for the proofs of other crates: tests, signed numbers as linear facts, tabulated lists and the loops that write them,
+-- parts of slices, related lists.
+pub mod Tests
 pub mod Signed
 pub mod Bounded
 pub mod Bits
 pub mod Tabulated
 pub mod Filled
+pub mod Parts
 pub mod Related

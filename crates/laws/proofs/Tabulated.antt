@@ -1,7 +1,7 @@
 -- The laws of `tabulate`.
 -- Assumes nothing.
 use mathlib.Core.Path.{_≡_, refl, ap, _∙_}
-use mathlib.Core.List.{List, _∷_, _++_}
+use mathlib.Core.List.{List, [], _∷_, _++_}
 use Prim.Native.Nat.{ℕ, zero, suc, _+_, _<_}
 use native.Mathlib.Nat.{not-suc-le-zero, le-of-suc-le-suc, zero-add, suc-add}
 use native.Mathlib.Omega.{arith}
@@ -38,3 +38,9 @@ tab-append (suc n) m f =
     (ap (λ (t : List ℕ). tabulate n (λ (k : ℕ). f (suc k)) ++ t)
     (tab-ext m (λ (k : ℕ). f (suc n + k)) (λ (k : ℕ). f (suc (n + k))) (λ i p. ap f (suc-add n i)))
     ∙ tab-append n m (λ (k : ℕ). f (suc k))))
+
+-- a list is what its own reads tabulate: for a loop that copies
+pub tab-self : (l : List ℕ) → tabulate (length l) (λ (k : ℕ). getD l k 0) ≡ l
+unfolding tabulate
+tab-self [] = refl
+tab-self (x ∷ l) = ap (λ (t : List ℕ). x ∷ t) (tab-self l)

@@ -11,31 +11,9 @@ use lib.Dec.{leb}
 use lib.ListN.{length, getD, drop, drop-of-length-le}
 use lib.Seq.{drop-cons}
 use borrow.Author.Tests.{leb-true}
+use Rattle.laws.proofs.Tests.{range}
 use Rattle.lists.specs.declared.Class.the-variants.{Digit, Hex}
 use Rattle.lists.specs.Text.{inClass, leading}
-
--- a test `if !x`, taken and left
-pub not-taken : (x : Bool) → not x ≡ true → x ≡ false
-not-taken true e = let z : _≡_ {A = ℕ} 0 1 = cc in absurd (omega arith)
-not-taken false e = refl
-
-pub not-left : (x : Bool) → not x ≡ false → x ≡ true
-not-left true e = refl
-not-left false e = let z : _≡_ {A = ℕ} 0 1 = cc in absurd (omega arith)
-
--- both tests of `x && y`, and one of `x || y`
-pub both : (x y : Bool) → (x && y) ≡ true → (x ≡ true) × (y ≡ true)
-both true y e = (refl, e)
-both false y e = let z : _≡_ {A = ℕ} 0 1 = cc in absurd (omega arith)
-
-pub either : (x y : Bool) → (x || y) ≡ true → (x ≡ true) ⊎ (y ≡ true)
-either true y e = inl refl
-either false y e = inr e
-
-range : (l h b : ℕ) → (leb l b && leb b h) ≡ true → (l ≤ b) × (b ≤ h)
-range l h b e =
-    let t = both (leb l b) (leb b h) e in
-    (leb-true l b (t .0), leb-true b h (t .1))
 
 pub digit-range : (b : ℕ) → inClass Digit b ≡ true → (48 ≤ b) × (b ≤ 57)
 digit-range b e = range 48 57 b e

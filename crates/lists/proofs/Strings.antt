@@ -13,7 +13,7 @@ use borrow.Author.Tests.{lt-ltb, le-leb, lt-leb, eq-eqb, ne-eqb, leb-true, eqb-t
 use Rattle.lists.specs.declared.Class.the-variants.{Hex}
 use Rattle.lists.specs.Text.{inClass, leading}
 use Rattle.lists.specs.ByteStrings.{isBytes, isEmptyString, bytesOf, stored}
-use Rattle.lists.proofs.Runs.{both, either}
+use Rattle.laws.proofs.Tests.{both, either}
 
 or-false : (x : Bool) → (x || false) ≡ x
 or-false true = refl

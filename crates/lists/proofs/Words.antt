@@ -9,16 +9,10 @@ use lib.Dec.{leb}
 use lib.ListN.{length, getD, take, drop, length-drop, drop-of-length-le}
 use lib.Seq.{length-take-le, take-all}
 use borrow.Author.Tests.{lt-ltb, le-ltb, eq-eqb, ne-eqb, leb-true, leb-false}
+use Rattle.laws.proofs.Parts.{part-length, part-rest}
 use Rattle.lists.specs.declared.Class.the-variants.{Line}
 use Rattle.lists.specs.declared.Next.the-variants.{Case, Comment, End}
 use Rattle.lists.specs.Text.{runEnd, place, wordStart, wordEnd, wordAt, nextStart, nextAt}
-
--- a part s[f..e]: its length, and the part that goes to the end
-pub part-length : (s : List ℕ) (f e : ℕ) → e ≤ length s → length (take (e - f) (drop f s)) ≡ e - f
-part-length s f e h = length-take-le (e - f) (drop f s) (omega (arith, length-drop f s))
-
-pub part-rest : (s : List ℕ) (f : ℕ) → take (length s - f) (drop f s) ≡ drop f s
-part-rest s f = take-all (length s - f) (drop f s) (omega (arith, length-drop f s))
 
 -- a place past the end, limited to the end, leaves as little behind it
 pub drop-place : (s : List ℕ) (n : ℕ) → drop (place s n) s ≡ drop n s

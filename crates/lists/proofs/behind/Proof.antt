@@ -4,7 +4,8 @@ use mathlib.Core.Path.{ap, _∙_}
 use Prim.Native.Nat.{ℕ}
 use borrow.Author.Needs.{needs}
 use lib.ListN.{drop}
-use Rattle.lists.proofs.Words.{part-rest, drop-place}
+use Rattle.laws.proofs.Parts.{part-rest}
+use Rattle.lists.proofs.Words.{drop-place}
 use Rattle.lists.proofs.behind.Statement.{statement}
 use Rattle.lists.proofs.behind.Tie as tie
 

@@ -12,7 +12,7 @@ use borrow.Author.Tests.{eq-eqb, ne-eqb}
 use lib.ListN.{getD}
 use Rattle.laws.proofs.Bits.{back}
 use Rattle.lists.specs.Numbers.{isNatural, naturalOf}
-use Rattle.lists.proofs.Words.{part-rest}
+use Rattle.laws.proofs.Parts.{part-rest}
 use Rattle.lists.proofs.Decimals.{number-empty}
 use Rattle.lists.proofs.parse_number.Statement.{statement}
 use Rattle.lists.proofs.parse_number.Tie as tie

@@ -8,8 +8,9 @@ use borrow.Author.Needs.{needs}
 use lib.ListN.{length, take, drop}
 use Rattle.lists.specs.ByteStrings.{isBytes, bytesOf}
 use Rattle.lists.specs.Text.{wordAt}
-use Rattle.lists.proofs.Runs.{not-taken, not-left}
-use Rattle.lists.proofs.Words.{part-length, part-word}
+use Rattle.laws.proofs.Tests.{not-taken, not-left}
+use Rattle.laws.proofs.Parts.{part-length}
+use Rattle.lists.proofs.Words.{part-word}
 use Rattle.lists.proofs.Strings.{bytes-fit, stored-is}
 use Rattle.lists.proofs.read_bytes.Statement.{statement}
 use Rattle.lists.proofs.read_bytes.Tie as tie

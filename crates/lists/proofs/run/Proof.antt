@@ -6,7 +6,8 @@ use mathlib.Core.Path.{_≡_, sym, _∙_}
 use borrow.Author.Needs.{needs}
 use lib.ListN.{length}
 use Rattle.lists.specs.Text.{inClass, runEnd}
-use Rattle.lists.proofs.Runs.{not-taken, not-left, leading-more, leading-stop, leading-end}
+use Rattle.laws.proofs.Tests.{not-taken, not-left}
+use Rattle.lists.proofs.Runs.{leading-more, leading-stop, leading-end}
 use Rattle.lists.proofs.run.Statement.{statement}
 use Rattle.lists.proofs.run.Tie as tie
 

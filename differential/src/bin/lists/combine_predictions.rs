@@ -9,13 +9,10 @@ use oracle::combine_predictions::{
 };
 use oracle::rng::Rng;
 
-use crate::list::{Hex, List, ORIGINAL};
+use crate::list::{ACCEPTED, Hex, List, ORIGINAL, OUTPUT_LENGTH, ramp, telling_fill};
 
 const SEED: u64 = 767;
 
-const ACCEPTED: u8 = 0;
-/// Document 01's number for an output of the wrong length.
-const OUTPUT_LENGTH: u8 = 18;
 /// Document 01's number for the original's `None`.
 const LENGTHS_DIFFER: u8 = 19;
 
@@ -76,7 +73,9 @@ struct Averaging {
 impl Averaging {
     /// Asks the original, and document 01 for what comes of the lent output.
     fn ask(rng: &mut Rng, forward: Vec<u8>, backward: Vec<u8>, length: usize) -> Self {
-        let fill = telling_fill(rng, &forward, &backward);
+        let both = forward.len().min(backward.len());
+        let means = average_predictions(&forward[..both], &backward[..both]).unwrap_or_default();
+        let fill = telling_fill(rng, &means);
         let unchanged = ramp(fill, length);
         let (answer, after) = match average_predictions(&forward, &backward) {
             None => (LENGTHS_DIFFER, unchanged),
@@ -113,29 +112,6 @@ impl Display for Averaging {
             Hex(&self.after),
         )
     }
-}
-
-/// What an output holds before the call.
-fn ramp(fill: u8, length: usize) -> Vec<u8> {
-    (0..=u8::MAX)
-        .cycle()
-        .skip(fill.into())
-        .take(length)
-        .collect()
-}
-
-/// A first byte of the output with which no mean is what the output holds at its place, where
-/// there is one: a sample that should have been written and was not shows, and so does one that
-/// should not have been and was.
-fn telling_fill(rng: &mut Rng, forward: &[u8], backward: &[u8]) -> u8 {
-    let both = forward.len().min(backward.len());
-    let means = average_predictions(&forward[..both], &backward[..both]).unwrap_or_default();
-    let apart = |fill: &u8| iter::zip(&means, ramp(*fill, both)).all(|(mean, held)| *mean != held);
-    let first = rng.byte();
-    (0..=u8::MAX)
-        .map(|step| first.wrapping_add(step))
-        .find(apart)
-        .unwrap_or(first)
 }
 
 /// A line of kind 2.

@@ -1,10 +1,18 @@
 //! The text of a list, in the format that every replay program reads.
 
 use std::fmt::{self, Display};
+use std::iter;
+
+use oracle::rng::Rng;
 
 /// Where the original's files are from.
 pub const ORIGINAL: &str =
     "OxideAV/oxideav-mpeg12video at commit 57648ece95, tests and some items cut";
+
+/// Document 01's number for a call that does not refuse.
+pub const ACCEPTED: u8 = 0;
+/// Document 01's number for an output of the wrong length.
+pub const OUTPUT_LENGTH: u8 = 18;
 
 /// No byte string of a list is longer: the replay programs may rely on it.
 const LONGEST: usize = 1024;
@@ -103,4 +111,27 @@ impl Display for Hex<'_> {
         }
         Ok(())
     }
+}
+
+/// What an output holds before the call.
+pub fn ramp(fill: u8, length: usize) -> Vec<u8> {
+    (0..=u8::MAX)
+        .cycle()
+        .skip(fill.into())
+        .take(length)
+        .collect()
+}
+
+/// A first byte of the output with which no sample is what the output holds at its place, where
+/// there is one: a sample that should have been written and was not shows, and so does one that
+/// should not have been and was.
+pub fn telling_fill(rng: &mut Rng, samples: &[u8]) -> u8 {
+    let apart = |fill: &u8| {
+        iter::zip(samples, ramp(*fill, samples.len())).all(|(sample, held)| *sample != held)
+    };
+    let first = rng.byte();
+    (0..=u8::MAX)
+        .map(|step| first.wrapping_add(step))
+        .find(apart)
+        .unwrap_or(first)
 }

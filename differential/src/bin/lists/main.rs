@@ -2,6 +2,7 @@
 //! checks that the ones in the repository are what is made today.
 
 mod combine_predictions;
+mod forming_predictions;
 mod list;
 
 use std::env;
@@ -13,7 +14,7 @@ use std::process::ExitCode;
 use list::List;
 
 /// A maker for each layer. A new layer adds its module above and a line here.
-const MAKERS: &[fn() -> List] = &[combine_predictions::list];
+const MAKERS: &[fn() -> List] = &[combine_predictions::list, forming_predictions::list];
 
 const USAGE: &str = "\
 usage: lists [--check] [--root DIR]

@@ -1,0 +1,277 @@
+-- Laws of blocks, and of their rows.
+-- Assumes nothing.
+use mathlib.Core.Path.{_≡_, refl, sym, ap, _∙_}
+use mathlib.Core.Bool.{true, false}
+use mathlib.Core.List.{List}
+use Prim.Native.Nat.{ℕ, suc, _+_, _-_, _*_, _/_, _%_, _≤_, _<_}
+use native.Mathlib.Nat.{zero-add, one-mul, mul-comm, mul-le-mul, mul-le-mul-right, suc-mul, mod-lt, div-lt-iff-lt-mul}
+use native.Mathlib.Numerals.{add-one}
+use native.Mathlib.Omega.{arith}
+use lib.Arith.{digits-lt, digits-div, digits-mod}
+use lib.Dec.{leb}
+use lib.IntN.{ℤ, pos, negsuc, _+ℤ_, +ℤ-assoc}
+use lib.ListN.{length, getD, take, drop}
+use lib.Seq.{length-take-le}
+use borrow.Author.Tests.{leb-true}
+use Rattle.laws.specs.Tabulate.{tabulate}
+use Rattle.laws.proofs.Signed.{zp, zn, eq-z, add-z}
+use Rattle.laws.proofs.Tabulated.{tab-ext, length-tab, getD-tab}
+use Rattle.laws.proofs.Parts.{part-length, part-at}
+use Rattle.forming_predictions.specs.Lines.{clampTo}
+use Rattle.forming_predictions.specs.Forming.{blockOf}
+use Rattle.forming_predictions.specs.inner.Views.{lineStart, viewRead, spread, fourOf, lineCell, picked, columnAt, insideOf, ViewFits, BlockFits, RowFits, Inside, ColumnsFit, FetchFits, RegionFits}
+use Rattle.forming_predictions.proofs.Lines.{clamp-in, clamp-lt}
+use Rattle.forming_predictions.proofs.RowMeans.{mean4-same}
+
+-- row r of a block of w columns and h rows, in a buffer
+pub row-in : (r h w : ℕ) → r < h → r * w + w ≤ w * h
+row-in r h w l = omega (arith, mul-le-mul-right w l, suc-mul r w, mul-comm w h)
+
+pub next-row : (r w : ℕ) → (r + 1) * w ≡ r * w + w
+next-row r w = rw (add-one r) (suc-mul r w)
+
+pub all-rows : (r h w : ℕ) → r ≡ h → r * w ≡ w * h
+all-rows r h w e = rw e (mul-comm h w)
+
+-- sample c of row r
+pub row-of-block : (rule : ℤ → ℤ → ℕ) (x y : ℤ) (w r c : ℕ) → c < w
+    → rule (x +ℤ pos c) (y +ℤ pos r) ≡ rule (x +ℤ pos ((r * w + c) % w)) (y +ℤ pos ((r * w + c) / w))
+row-of-block rule x y w r c p = rw (digits-div r p, digits-mod r p)
+
+-- two rules that agree give one block
+pub block-ext : (w h : ℕ) (f g : ℤ → ℤ → ℕ) (x y : ℤ) → ((a b : ℤ) → f a b ≡ g a b) → blockOf w h f x y ≡ blockOf w h g x y
+unfolding blockOf
+block-ext w h f g x y e = tab-ext (w * h) _ _ (λ k p. e _ _)
+
+-- ---- a line that is read without clamping
+clamp-sum : (n a b : ℕ) → a + b < n → clampTo n (pos a +ℤ pos b) ≡ a + b
+clamp-sum n a b h = clamp-in n (a + b) h
+
+clamp-sums : (n a b c : ℕ) → a + b + c < n → clampTo n (pos a +ℤ pos b +ℤ pos c) ≡ a + b + c
+clamp-sums n a b c h = clamp-in n (a + b + c) h
+
+module _ {s : List ℕ} {w first step count x y dx dy n : ℕ} (f : ViewFits s w first step count) (i : Inside w count x y dx dy n 1) where
+  -- its first sample, and that of the line below
+  abbrev here : ℕ
+  here = lineStart first step w y
+
+  abbrev below : ℕ
+  below = lineStart first step w (y + dy)
+
+  pub here-room : here + w ≤ length s
+  here-room = f .room y (omega (arith, i .below))
+
+  pub below-room : below + w ≤ length s
+  below-room = f .room (y + dy) (omega (arith, i .below))
+
+  pub line-rows : {a b : ℕ} → a ≡ here → b ≡ below → RowFits (take (a + w - a) (drop a s)) (take (b + w - b) (drop b s)) x dx n
+  line-rows {a} {b} p q =
+      let l = part-length s a (a + w) (rw p here-room) in
+      let m = part-length s b (b + w) (rw q below-room) in
+      record { right = omega (arith, i .right); same = omega arith }
+
+  pub same-rows : {a b : ℕ} → a ≡ here → b ≡ below → dy ≡ 0 → take (b + w - b) (drop b s) ≡ take (a + w - a) (drop a s)
+  same-rows {a} {b} p q e =
+      let same : y + dy ≡ y = omega arith in
+      let t : b ≡ a = q ∙ ap (lineStart first step w) same ∙ sym p in
+      ap (λ (j : ℕ). take (j + w - j) (drop j s)) t
+
+  pub line-cells : {a b : ℕ} → a ≡ here → b ≡ below → (k : ℕ) → k < n
+      → fourOf (take (a + w - a) (drop a s)) (take (b + w - b) (drop b s)) x dx k ≡ lineCell s w first step count (pos x) (pos y) dx dy k
+  unfolding fourOf lineCell spread viewRead
+  line-cells {a} {b} p q k h =
+      let comm : x + dx + k ≡ x + k + dx = omega arith in
+      rw (
+        comm,
+        part-at s a (a + w) (x + k) (omega (arith, i .right)),
+        part-at s a (a + w) (x + k + dx) (omega (arith, i .right)),
+        part-at s b (b + w) (x + k) (omega (arith, i .right)),
+        part-at s b (b + w) (x + k + dx) (omega (arith, i .right)),
+        p,
+        q,
+        clamp-in count y (omega (arith, i .below)),
+        clamp-sum count y dy (omega (arith, i .below)),
+        clamp-sum w x k (omega (arith, i .right)),
+        clamp-sums w x k dx (omega (arith, i .right)),
+      )
+
+-- ---- a line that is read in clamped columns
+module _ {s columns : List ℕ} {w first step count : ℕ} (f : ViewFits s w first step count) (g : ColumnsFit columns w) (y : ℤ) {a : ℕ}
+    (p : a ≡ lineStart first step w (clampTo count y)) where
+  pub fetch-room : a + w ≤ length s
+  fetch-room = rw p (f .room (clampTo count y) (clamp-lt count y (f .lines)))
+
+  pub fetch-columns : ColumnsFit columns (length (take (a + w - a) (drop a s)))
+  fetch-columns =
+      let l = part-length s a (a + w) fetch-room in
+      record { few = g .few; some = g .some; inside = λ k h. omega (arith, g .inside k h) }
+
+  pub fetch-cells : (k : ℕ) → k < length columns
+      → getD (take (a + w - a) (drop a s)) (getD columns k 0) 0 ≡ picked s w first step count columns y k
+  unfolding picked
+  fetch-cells k h =
+      part-at s a (a + w) (getD columns k 0) (omega (arith, g .inside k h)) ∙ ap (λ (j : ℕ). getD s (j + getD columns k 0) 0) p
+
+-- the clamped columns of a block are inside the row
+pub columns-fit : {columns : List ℕ} {w n : ℕ} (x : ℤ) → columns ≡ tabulate n (columnAt w x) → n ≤ 17 → 0 < n → 0 < w → ColumnsFit columns w
+unfolding columnAt
+columns-fit {columns} {w} {n} x e p q r =
+    let l : length columns ≡ n = ap length e ∙ length-tab n (columnAt w x) in
+    record {
+      few = omega arith;
+      some = omega arith;
+      inside = λ k h. rw (e, getD-tab n (columnAt w x) k 0 (omega arith)) (clamp-lt w (x +ℤ pos k) r);
+    }
+
+-- and what is picked in them is what the view reads
+pub picked-block : (s : List ℕ) {columns : List ℕ} (w first step count n : ℕ) (x y : ℤ) (h : ℕ) → columns ≡ tabulate n (columnAt w x) → 0 < n
+    → tabulate (length columns * h) (λ (k : ℕ). picked s w first step count columns (y +ℤ pos (k / length columns)) (k % length columns))
+    ≡ blockOf n h (viewRead s w first step count) x y
+unfolding blockOf picked viewRead columnAt
+picked-block s {columns} w first step count n x y h e p =
+    let l : length columns ≡ n = ap length e ∙ length-tab n (columnAt w x) in
+    rw (l, e) (tab-ext (n * h) _ _ (λ k q. rw (getD-tab n (columnAt w x) (k % n) 0 (mod-lt k p))))
+
+-- four reads that agree give one mean
+spread-cong : (f g : ℤ → ℤ → ℕ) (a b c d : ℤ) (dx dy : ℕ)
+    → f a b ≡ g c d
+    → f (a +ℤ pos dx) b ≡ g (c +ℤ pos dx) d
+    → f a (b +ℤ pos dy) ≡ g c (d +ℤ pos dy)
+    → f (a +ℤ pos dx) (b +ℤ pos dy) ≡ g (c +ℤ pos dx) (d +ℤ pos dy)
+    → spread f a b dx dy ≡ spread g c d dx dy
+unfolding spread
+spread-cong f g a b c d dx dy p q r t = rw (p, q, r, t)
+
+-- ---- a block that was copied out of a view: read there without clamping, it gives the block of the view
+-- row r and column c of a block's sample k
+pub block-row : (w h k : ℕ) → 0 < w → k < w * h → k / w < h
+block-row w h k p q = div-lt-iff-lt-mul p .1 (rw (mul-comm h w) q)
+
+module _ (s : List ℕ) (w first step count : ℕ) (x y : ℤ) (dx dy bw bh : ℕ) (region : List ℕ)
+    (e : region ≡ blockOf (bw + dx) (bh + dy) (viewRead s w first step count) x y) where
+  abbrev there : ℤ → ℤ → ℕ
+  there = viewRead s w first step count
+
+  abbrev W : ℕ
+  W = bw + dx
+
+  abbrev H : ℕ
+  H = bh + dy
+
+  region-length : length region ≡ W * H
+  unfolding blockOf
+  region-length = ap length e ∙ length-tab (W * H) _
+
+  pub region-view : 0 < bw → bw ≤ 16 → 0 < bh → bh ≤ 16 → dx ≤ 1 → dy ≤ 1 → ViewFits region W 0 1 H
+  region-view a b c d f g =
+      record {
+        some = omega arith;
+        wide = omega arith;
+        low = omega arith;
+        apart = omega arith;
+        lines = omega arith;
+        high = omega arith;
+        room = λ j i. rw (zero-add (1 * j), one-mul j) (omega (arith, region-length, row-in j H W i));
+      }
+
+  region-read : (i j : ℕ) → i < W → j < H → viewRead region W 0 1 H (pos i) (pos j) ≡ there (x +ℤ pos i) (y +ℤ pos j)
+  unfolding viewRead blockOf
+  region-read i j p q =
+      rw (clamp-in W i p, clamp-in H j q, zero-add (1 * j), one-mul j, e)
+      (getD-tab (W * H) _ (j * W + i) 0 (omega (arith, digits-lt q p, mul-comm W H))
+      ∙ rw (digits-div j p, digits-mod j p))
+
+  right : (c : ℕ) → x +ℤ pos (c + dx) ≡ x +ℤ pos c +ℤ pos dx
+  right c = sym (+ℤ-assoc x (pos c) (pos dx))
+
+  under : (r : ℕ) → y +ℤ pos (r + dy) ≡ y +ℤ pos r +ℤ pos dy
+  under r = sym (+ℤ-assoc y (pos r) (pos dy))
+
+  region-cell : (c r : ℕ) → c < bw → r < bh
+      → spread (viewRead region W 0 1 H) (pos c) (pos r) dx dy ≡ spread there (x +ℤ pos c) (y +ℤ pos r) dx dy
+  region-cell c r p q =
+      spread-cong (viewRead region W 0 1 H) there (pos c) (pos r) (x +ℤ pos c) (y +ℤ pos r) dx dy
+      (region-read c r (omega arith) (omega arith))
+      (region-read (c + dx) r (omega arith) (omega arith) ∙ ap (λ (z : ℤ). there z (y +ℤ pos r)) (right c))
+      (region-read c (r + dy) (omega arith) (omega arith) ∙ ap (λ (z : ℤ). there (x +ℤ pos c) z) (under r))
+      (region-read (c + dx) (r + dy) (omega arith) (omega arith)
+      ∙ ap (λ (z : ℤ). there z (y +ℤ pos (r + dy))) (right c)
+      ∙ ap (λ (z : ℤ). there (x +ℤ pos c +ℤ pos dx) z) (under r))
+
+  pub region-block : 0 < bw
+      → blockOf bw bh (λ (a b : ℤ). spread (viewRead region W 0 1 H) a b dx dy) (pos 0) (pos 0)
+      ≡ blockOf bw bh (λ (a b : ℤ). spread there a b dx dy) x y
+  unfolding blockOf
+  region-block q =
+      tab-ext (bw * bh) _ _
+      (λ k p. rw (zero-add (k % bw), zero-add (k / bw)) (region-cell (k % bw) (k / bw) (mod-lt k q) (block-row bw bh k q p)))
+
+-- ---- where nothing is a mean, what is read is the block
+plus-none : (z : ℤ) → z +ℤ pos 0 ≡ z
+plus-none z = eq-z (z +ℤ pos 0) z (omega (arith, add-z z (pos 0)))
+
+pub spread-none : (read : ℤ → ℤ → ℕ) (x y : ℤ) → spread read x y 0 0 ≡ read x y
+unfolding spread
+spread-none read x y = rw (plus-none x, plus-none y) (mean4-same (read x y))
+
+pub plain-block : (read : ℤ → ℤ → ℕ) (x y : ℤ) (bw bh : ℕ)
+    → blockOf bw bh read x y ≡ blockOf bw bh (λ (a b : ℤ). spread read a b 0 0) x y
+plain-block read x y bw bh = block-ext bw bh _ _ x y (λ a b. sym (spread-none read a b))
+
+-- ---- the test that nothing is outside
+pub inside-up : (z : ℤ) (n limit : ℕ) → zn z ≡ 0 → insideOf z n limit ≡ leb (zp z + n) limit
+unfolding insideOf
+inside-up (pos a) n limit e = refl
+inside-up (negsuc a) n limit e = absurd (omega arith)
+
+pub inside-down : (z : ℤ) (n limit : ℕ) → 0 < zn z → insideOf z n limit ≡ false
+unfolding insideOf
+inside-down (pos a) n limit h = absurd (omega arith)
+inside-down (negsuc a) n limit h = refl
+
+pub inside-yes : (z : ℤ) (n limit : ℕ) → insideOf z n limit ≡ true → (zn z ≡ 0) × (zp z + n ≤ limit)
+unfolding insideOf
+inside-yes (pos a) n limit e = (refl, leb-true (a + n) limit e)
+inside-yes (negsuc a) n limit e = let z : _≡_ {A = ℕ} 0 1 = cc in absurd (omega arith)
+
+-- how much a block reads at most
+pub region-most : {dx dy bw bh : ℕ} {o : List ℕ} → BlockFits dx dy bw bh o → (bw + dx) * (bh + dy) ≤ 289
+region-most {dx} {dy} {bw} {bh} b =
+    let p : bw + dx ≤ 17 = omega (arith, b .wide, b .right) in
+    let q : bh + dy ≤ 17 = omega (arith, b .high, b .down) in
+    mul-le-mul p q
+
+-- fronts of local arrays, as room for what a block reads
+pub front : (l : List ℕ) (n : ℕ) → n ≤ length l → length (take (n - 0) l) ≡ n
+front l n h = length-take-le (n - 0) l (omega arith) ∙ omega arith
+
+pub front-fetch : (l : List ℕ) {o : List ℕ} {dx dy bw bh : ℕ} → BlockFits dx dy bw bh o → length l ≡ 17 → FetchFits (take (bw - 0) l) bh o
+front-fetch l {o} {dx} {dy} {bw} {bh} b e =
+    let long = front l bw (omega (arith, b .wide)) in
+    record {
+      few = omega (arith, b .wide);
+      some = omega (arith, b .some);
+      high = omega (arith, b .high);
+      count = rw long (b .count);
+    }
+
+pub front-region : (c r : List ℕ) {o : List ℕ} {dx dy bw bh : ℕ} → BlockFits dx dy bw bh o → length c ≡ 17 → length r ≡ 289
+    → RegionFits (take (bw + dx - 0) c) (take ((bw + dx) * (bh + dy) - 0) r) dx dy bw bh
+front-region c r {o} {dx} {dy} {bw} {bh} b e f =
+    record {
+      columns-count = front c (bw + dx) (omega (arith, b .wide, b .right));
+      region-count = front r ((bw + dx) * (bh + dy)) (omega (arith, region-most b));
+    }
+
+-- a block without means
+pub plain-fits : {dx dy bw bh : ℕ} {o : List ℕ} → BlockFits dx dy bw bh o → BlockFits 0 0 bw bh o
+plain-fits b =
+    record {
+      right = omega arith;
+      down = omega arith;
+      some = b .some;
+      wide = b .wide;
+      tall = b .tall;
+      high = b .high;
+      count = b .count;
+    }

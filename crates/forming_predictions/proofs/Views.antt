@@ -1,0 +1,123 @@
+-- Laws of views: what lies in a plane, and that the view of a frame or field reads as document 01 says.
+-- Assumes nothing.
+use mathlib.Core.Path.{_≡_, refl, sym, ap, _∙_}
+use mathlib.Core.Bool.{Bool, true, false, _||_, _&&_, cond}
+use mathlib.Core.List.{List}
+use Prim.Native.Nat.{ℕ, zero, suc, _+_, _-_, _*_, _/_, _≤_, _<_}
+use native.Mathlib.Nat.{zero-mul, mul-zero, mul-comm, mul-le-mul, mul-le-mul-right, mul-le-mul-left, suc-mul}
+use native.Mathlib.Omega.{arith}
+use lib.Dec.{eqb}
+use lib.IntN.{ℤ, pos, _+ℤ_}
+use lib.ListN.{length, getD}
+use borrow.Author.Tests.{eq-eqb, ne-eqb}
+use mir.Syntax.{w32, w64}
+use mir.Val.{SFits, Fits}
+use Rattle.laws.proofs.Signed.{zp, zn, add-z, sfits-hi, sfits-lo, sfits-z}
+use Rattle.forming_predictions.specs.Lines.{Lines, frame, field, parityRow, fieldLines, clampTo, rowOf, sampleAt}
+use Rattle.forming_predictions.specs.inner.Views.{lineStart, viewRead, ViewFits, Reach, RowsFit, ReadsAs, rowsSample}
+use Rattle.forming_predictions.specs.declared.FieldParity.the-variants.{Top, Bottom}
+use Rattle.forming_predictions.specs.declared.Rows.{Rows}
+use Rattle.forming_predictions.proofs.Lines.{clamp-is, clamp-lt, top-lines, bottom-lines, frame-row, field-row, empty-field}
+
+-- sides of a plane that has samples
+pub sides-some : (w h : ℕ) → 0 < w * h → (0 < w) × (0 < h)
+sides-some zero h p = absurd (omega (arith, zero-mul h))
+sides-some (suc w) zero p = absurd (omega (arith, mul-zero (suc w)))
+sides-some (suc w) (suc h) p = (omega arith, omega arith)
+
+-- the place of a line's first sample fits a usize, and so do the numbers on the way to it
+pub start-fits : (row w : ℕ) → row ≤ 32769 → w ≤ 16384 → Fits w64 (row * w)
+start-fits row w p q = record { fits = omega (arith, mul-le-mul p q) }
+
+pub row-small : (first step line : ℕ) → first ≤ 1 → step ≤ 2 → line ≤ 16384 → first + step * line ≤ 32769
+row-small first step line p q r = omega (arith, mul-le-mul q r)
+
+pub row-fits : (first step line : ℕ) → first ≤ 1 → step ≤ 2 → line ≤ 16384 → Fits w64 (first + step * line)
+row-fits first step line p q r = record { fits = omega (arith, row-small first step line p q r) }
+
+-- the place that is read lies in the samples
+pub place-lt : {s : List ℕ} {w first step count : ℕ} (x y : ℤ) → ViewFits s w first step count
+    → lineStart first step w (clampTo count y) + clampTo w x < length s
+place-lt {s} {w} {first} {step} {count} x y f =
+    omega (arith, f .room (clampTo count y) (clamp-lt count y (f .lines)), clamp-lt w x (f .some))
+
+-- steps from a coordinate
+pub reach-fits : {z : ℤ} {n : ℕ} → Reach z → n ≤ 17 → SFits w32 (z +ℤ pos n)
+reach-fits {z} {n} r h =
+    let a = add-z z (pos n) in
+    let b = add-z z (pos 17) in
+    let c = sfits-lo w32 z (r .here) in
+    let d = sfits-hi w32 (z +ℤ pos 17) (r .last) in
+    sfits-z w32 (z +ℤ pos n) (omega arith) (omega arith)
+
+-- the rows of a plane that has samples are a view
+pub rows-view : {r : Rows} {s : List ℕ} {w h : ℕ} → RowsFit r h → w ≤ 16384 → h ≤ 16384 → length s ≡ w * h → 0 < length s
+    → ViewFits s w (r .first) (r .step) (r .count)
+rows-view {r} {s} {w} {h} f p q e l =
+    let sides = sides-some w h (omega arith) in
+    record {
+      some = sides .0;
+      wide = p;
+      low = f .low;
+      apart = f .apart;
+      lines = f .some (sides .1);
+      high = omega (arith, f .few);
+      room =
+          λ j i.
+          omega
+          (arith, mul-le-mul-right w (f .inside j i), suc-mul (r .first + r .step * j) w, mul-comm w h);
+    }
+
+-- and a view of them reads what the lines read
+module _ (l : Lines) (h : ℕ) (r : Rows) (f : ReadsAs l h r) (w : ℕ) (s : List ℕ) (x y : ℤ) where
+  pub rows-sample : rowsSample r w h s x y ≡ sampleAt l w h s x y
+  unfolding rowsSample viewRead sampleAt
+  rows-sample = ap (λ (k : ℕ). cond (eqb w 0 || eqb h 0) 0 (getD s (k * w + clampTo w x) 0)) (f .same y)
+
+-- a plane without samples samples 0
+pub no-sample : (r : Rows) (w h : ℕ) (s : List ℕ) (x y : ℤ) → w * h ≡ 0 → rowsSample r w h s x y ≡ 0
+unfolding rowsSample
+no-sample r zero h s x y e = refl
+no-sample r (suc w) zero s x y e = rw (ne-eqb (suc w) 0 (λ e. omega arith))
+no-sample r (suc w) (suc h) s x y e = absurd (omega (arith, e, mul-comm (suc w) (suc h)))
+
+-- a plane with samples is read through its view
+pub some-sample : (r : Rows) (w h : ℕ) (s : List ℕ) (x y : ℤ) → 0 < w → 0 < h → rowsSample r w h s x y ≡ viewRead s w (r .first) (r .step) (r .count) x y
+unfolding rowsSample
+some-sample r w h s x y p q = rw (ne-eqb w 0 (λ e. omega arith), ne-eqb h 0 (λ e. omega arith))
+
+-- ---- the three views of a plane of h rows
+pub frame-reads : (h : ℕ) → ReadsAs frame h (record { first = 0; step = 1; count = h })
+frame-reads h =
+    record {
+      fits = record { low = omega arith; apart = omega arith; few = omega arith; some = λ p. p; inside = λ j i. omega arith };
+      same = λ y. omega (arith, frame-row h y);
+    }
+
+pub top-reads : (h : ℕ) → ReadsAs (field Top) h (record { first = 0; step = 2; count = h - h / 2 })
+top-reads h =
+    record {
+      fits = record { low = omega arith; apart = omega arith; few = omega arith; some = λ q. omega arith; inside = λ j i. omega arith };
+      same = λ y. top-row h y (fieldLines Top h) refl;
+    }
+  where
+    top-row : (h : ℕ) (y : ℤ) (n : ℕ) → fieldLines Top h ≡ n → 0 + 2 * clampTo (h - h / 2) y ≡ rowOf (field Top) h y
+    top-row h y zero e = omega (arith, top-lines h, empty-field Top h y e, clamp-is h (pos 0), clamp-is (h - h / 2) y)
+    top-row h y (suc n) e =
+        let t : h - h / 2 ≡ fieldLines Top h = omega (arith, top-lines h) in
+        rw t (omega (arith, field-row Top h y (omega arith)))
+
+-- a bottom field without lines is one of a plane of at most one row: that row is read
+pub no-bottom-reads : (h : ℕ) → h ≤ 1 → ReadsAs (field Bottom) h (record { first = 0; step = 1; count = h })
+no-bottom-reads h p =
+    record {
+      fits = frame-reads h .fits;
+      same = λ y. omega (arith, empty-field Bottom h y (omega (arith, bottom-lines h)), clamp-is h (pos 1), clamp-is h y);
+    }
+
+pub bottom-reads : (h : ℕ) → 1 < h → ReadsAs (field Bottom) h (record { first = 1; step = 2; count = h / 2 })
+bottom-reads h p =
+    record {
+      fits = record { low = omega arith; apart = omega arith; few = omega arith; some = λ q. omega arith; inside = λ j i. omega arith };
+      same = λ y. rw (← bottom-lines h) (omega (arith, field-row Bottom h y (omega (arith, bottom-lines h))));
+    }

@@ -1,0 +1,102 @@
+-- `form` meets its contract: inside, nothing is clamped.
+-- Assumes nothing.
+use mathlib.Core.Path.{_≡_, sym, ap, _∙_}
+use mathlib.Core.Bool.{true}
+use Prim.Native.Nat.{_+_, _≤_}
+use native.Mathlib.Omega.{arith}
+use lib.IntN.{ℤ}
+use mir.Facts.{toZ-ofZ}
+use Rattle.laws.proofs.Signed.{zp, zn}
+use Rattle.laws.proofs.Tests.{both}
+use Rattle.laws.proofs.Bits.{cast-ok, cast-val, up-is}
+use Rattle.forming_predictions.proofs.Blocks.{inside-yes}
+use borrow.Author.Needs.{needs}
+use Rattle.forming_predictions.proofs.form.Statement.{statement}
+use Rattle.forming_predictions.proofs.form.Tie as tie
+
+-- what the tests say of the position, in the caller's terms
+tests : (c : tie.Then1) → (c .before .before .is-inside .result ≡ true) × (c .before .is-inside2 .result ≡ true)
+tests c = both (c .before .before .is-inside .result) (c .before .is-inside2 .result) (c .if1 .taken)
+
+at-x : (c : tie.Then1)
+    → (let a = c .before .before .before .before .before .args in (zn (a .x) ≡ 0) × (zp (a .x) + (a .dx + a .block-width) ≤ a .width))
+at-x c =
+    let s = c .before .before .before .before .before in
+    let a = s .args in
+    inside-yes (a .x) (a .dx + a .block-width) (a .width) (sym (rw (toZ-ofZ (s .fits .x)) at (c .before .before .is-inside .ensures)) ∙ tests c .0)
+
+at-y : (c : tie.Then1)
+    → (let a = c .before .before .before .before .before .args in (zn (a .y) ≡ 0) × (zp (a .y) + (a .dy + a .block-height) ≤ a .count))
+at-y c =
+    let s = c .before .before .before .before .before in
+    let a = s .args in
+    inside-yes (a .y) (a .dy + a .block-height) (a .count) (sym (rw (toZ-ofZ (s .fits .y)) at (c .before .is-inside2 .ensures)) ∙ tests c .1)
+
+add-is-inside : tie.Need-add-is-inside
+add-is-inside c = search needs
+
+is-inside-requires : tie.Need-is-inside-requires
+is-inside-requires c κs = search needs
+
+add-is-inside-2 : tie.Need-add-is-inside-2
+add-is-inside-2 c = search needs
+
+is-inside-requires-2 : tie.Need-is-inside-requires-2
+is-inside-requires-2 c κs = search needs
+
+cast-form-inside : tie.Need-cast-form-inside
+cast-form-inside c = let s = c .before .before .before .before .before in cast-ok (s .fits .x) tt (at-x c .0)
+
+cast-form-inside-2 : tie.Need-cast-form-inside-2
+cast-form-inside-2 c = let s = c .before .before .before .before .before in cast-ok (s .fits .y) tt (at-y c .0)
+
+form-inside-requires : tie.Need-form-inside-requires
+form-inside-requires c κs =
+    let t = c .before in
+    let s = t .before .before .before .before .before in (
+      s .pre .0,
+      s .pre .3,
+      record {
+        right = omega (arith, cast-val (s .fits .x) (at-x t .0), at-x t .1);
+        below = omega (arith, cast-val (s .fits .y) (at-y t .0), at-y t .1);
+      },
+    )
+
+same-length : tie.Need-same-length
+same-length c = search needs
+
+returns : tie.Need-returns
+returns c =
+    let i = c .before .before in
+    let t = i .before .before in
+    let s = t .before .before .before .before .before in
+    rw (up-is (s .args .x) (s .fits .x) (at-x t .0), up-is (s .args .y) (s .fits .y) (at-y t .0)) at (i .form-inside .ensures)
+
+form-clamped-requires : tie.Need-form-clamped-requires
+form-clamped-requires c κs = search needs
+
+same-length-2 : tie.Need-same-length-2
+same-length-2 c = search needs
+
+returns-2 : tie.Need-returns-2
+returns-2 c =
+    let f = c .before .before in
+    let s = f .before .before .before .before .before .before .before in
+    rw (toZ-ofZ (s .fits .x), toZ-ofZ (s .fits .y)) at (f .form-clamped .ensures)
+
+pub form-spec : {M : Type 1} → statement M
+form-spec =
+    tie.close
+    (tie.spec
+    add-is-inside
+    is-inside-requires
+    add-is-inside-2
+    is-inside-requires-2
+    cast-form-inside
+    cast-form-inside-2
+    form-inside-requires
+    same-length
+    returns
+    form-clamped-requires
+    same-length-2
+    returns-2)

@@ -1,0 +1,46 @@
+-- `form_row` meets its contract: two samples give the mean of four where one of the steps is 0.
+-- Assumes nothing.
+use mathlib.Core.Path.{_≡_, _∙_}
+use Rattle.laws.proofs.Tabulated.{tab-ext}
+use Rattle.forming_predictions.proofs.RowMeans.{two-is-four}
+use borrow.Author.Needs.{needs}
+use Rattle.forming_predictions.proofs.form_row.Statement.{statement}
+use Rattle.forming_predictions.proofs.form_row.Tie as tie
+
+add-if1 : tie.Need-add-if1
+add-if1 c = search needs
+
+four-row-requires : tie.Need-four-row-requires
+four-row-requires c κs = search needs
+
+same-length : tie.Need-same-length
+same-length c = search needs
+
+returns : tie.Need-returns
+returns c = search needs
+
+two-row-requires : tie.Need-two-row-requires
+two-row-requires c κs = search needs
+
+same-length-2 : tie.Need-same-length-2
+same-length-2 c = search needs
+
+returns-2 : tie.Need-returns-2
+returns-2 c =
+    let e = c .before .before .before .before in
+    let s = e .before .before .before .before in
+    let a = s .args in
+    c .before .before .two-row .ensures
+    ∙ tab-ext _ _ _ (λ k h. two-is-four (a .row .now) (a .below .now) (a .x) (a .dx) (a .dy) k (s .pre .1) (s .pre .2) (e .if1 .left) (s .pre .3))
+
+pub form-row-spec : {M : Type 1} → statement M
+form-row-spec =
+    tie.close
+    (tie.spec
+    add-if1
+    four-row-requires
+    same-length
+    returns
+    two-row-requires
+    same-length-2
+    returns-2)

@@ -1,0 +1,21 @@
+-- `split_vector` meets its contract.
+-- Assumes nothing.
+use mir.Facts.{toZ-ofZ}
+use borrow.Author.Needs.{needs}
+use Rattle.forming_predictions.proofs.split_vector.Statement.{statement}
+use Rattle.forming_predictions.proofs.split_vector.Tie as tie
+
+split-component-requires : tie.Need-split-component-requires
+split-component-requires c κs = search needs
+
+split-component-requires-2 : tie.Need-split-component-requires-2
+split-component-requires-2 c κs = search needs
+
+returns : tie.Need-returns
+returns c =
+    let s = c .before .before in
+    (rw (toZ-ofZ (s .fits .horizontal)) at (c .before .split-component .ensures), rw (toZ-ofZ (s .fits .vertical)) at (c .split-component2 .ensures))
+
+pub split-vector-spec : {M : Type 1} → statement M
+split-vector-spec =
+    tie.close (tie.spec split-component-requires split-component-requires-2 returns)

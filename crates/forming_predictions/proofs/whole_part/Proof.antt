@@ -1,0 +1,15 @@
+-- `whole_part` meets its contract: the shift is the floor of half.
+-- Assumes nothing.
+use mir.Facts.{toZ-ofZ}
+use Rattle.forming_predictions.proofs.Splitting.{half-is, floor-fits}
+use Rattle.forming_predictions.proofs.whole_part.Statement.{statement}
+use Rattle.forming_predictions.proofs.whole_part.Tie as tie
+
+returns : tie.Need-returns
+returns c =
+    let v = c .args .vector in
+    let f = c .fits .vector in
+    rw (toZ-ofZ f, half-is v, toZ-ofZ (floor-fits f))
+
+pub whole-part-spec : {M : Type 1} → statement M
+whole-part-spec = tie.close (tie.spec returns)

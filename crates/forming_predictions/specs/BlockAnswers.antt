@@ -1,0 +1,13 @@
+-- The answer of a call that writes a block: document 01's number of each case, 0 for acceptance.
+use Prim.Native.Nat.{ℕ, zero, suc}
+use Rattle.forming_predictions.specs.declared.Predicted.{Predicted}
+use Rattle.forming_predictions.specs.declared.Predicted.the-variants.{Done, Refused}
+
+abbrev pub blockNumber : Predicted → ℕ
+blockNumber Done = 0
+blockNumber (Refused n) = n
+
+-- the answer with this number
+abbrev pub blockAnswer : ℕ → Predicted
+blockAnswer zero = Done
+blockAnswer (suc n) = Refused (suc n)

@@ -1,0 +1,11 @@
+-- What must be believed of forming_predictions: ISO/IEC 13818-2, 7.6.4, with document 01's clamping and its refusals 14 and 18.
+-- `inner` is not among it: it has what private contracts alone speak of.
+pub mod Splitting
+pub mod Lines
+pub mod Means
+pub mod Forming
+pub mod Refusals
+pub mod SampleAnswers
+pub mod BlockAnswers
+pub mod Cases
+pub mod inner

@@ -1,0 +1,806 @@
+//! ISO/IEC 13818-2, 7.6.4: forming predictions. A motion vector in half samples leads to one, two or four samples of a reference frame
+//! or field; a predicted sample is their rounded mean.
+use combine_predictions::WRONG_LENGTH;
+use combine_predictions::average_predictions;
+ghost use mathlib.Core.Path.{_≡_};
+ghost use mathlib.Core.Bool.{_||_};
+ghost use Prim.Native.Nat.{ℕ, _+_, _*_, _/_, _%_, _≤_, _<_};
+ghost use lib.IntN.{pos, _+ℤ_};
+ghost use lib.ListN.{length, getD};
+ghost use Rattle.laws.specs.Tabulate.{tabulate};
+ghost use Rattle.combine_predictions.specs.Refusals.{unlessRefused};
+ghost use Rattle.combine_predictions.specs.Averaging.{averaged};
+ghost use Rattle.forming_predictions.specs.declared.FieldParity.the-variants.{Bottom};
+ghost use Rattle.forming_predictions.specs.Splitting.{floorHalf, halfFlag, IsSplit, patternOf, horizontalHalf, verticalHalf};
+ghost use Rattle.forming_predictions.specs.Lines.{frame, field, fieldLines, clampTo, sampleAt};
+ghost use Rattle.forming_predictions.specs.Means.{mean4, rounded};
+ghost use Rattle.forming_predictions.specs.Forming.{formed, blockOf};
+ghost use Rattle.forming_predictions.specs.Refusals.{planeFits, positionFits, blockSideFits, planeRefusal, lastSample, sampleRefusal, blockRefusal};
+ghost use Rattle.forming_predictions.specs.SampleAnswers.{sampleNumber, sampleAnswer};
+ghost use Rattle.forming_predictions.specs.BlockAnswers.{blockNumber, blockAnswer};
+ghost use Rattle.forming_predictions.specs.inner.Views.{lineStart, viewRead, spread, twoOf, fourOf, lineCell, picked, columnAt, viewBlock, ViewFits, BlockFits, RowFits, Inside, ColumnsFit, FetchFits, RegionFits, insideOf, Reach, RowsFit, ReadsAs, rowsSample, bitOf};
+
+/// Refusal: a plane's length is not width times height, or a side or a position is outside the domain.
+pub const OUTSIDE_DOMAIN: u8 = 14;
+
+/// The four cases of half_flag\[0\], the horizontal one, and half_flag\[1\].
+pub enum HalfPattern {
+    Integer,
+    HalfHorizontal,
+    HalfVertical,
+    HalfBoth,
+}
+
+/// The flags of a pattern.
+pub struct HalfFlags {
+    pub horizontal: bool,
+    pub vertical: bool,
+}
+
+/// A component of a vector: whole samples, and whether a half is to be added.
+pub struct ComponentSplit {
+    pub int_vec: i32,
+    pub half_flag: bool,
+}
+
+pub struct SplitVector {
+    pub horizontal: ComponentSplit,
+    pub vertical: ComponentSplit,
+}
+
+/// The sides of a plane. Its samples, row after row, are passed beside it.
+pub struct ReferencePlane {
+    pub width: usize,
+    pub height: usize,
+}
+
+/// A field of a frame: the top field has rows 0, 2, 4 and so on, the bottom field rows 1, 3, 5.
+pub enum FieldParity {
+    Top,
+    Bottom,
+}
+
+/// A field of a plane that holds both fields, row by row in turn.
+pub struct FieldReference {
+    pub plane: ReferencePlane,
+    pub parity: FieldParity,
+}
+
+/// The sides of a predicted block.
+pub struct BlockSize {
+    pub width: usize,
+    pub height: usize,
+}
+
+/// A sample, or the number of the refusal.
+pub enum Sampled {
+    Sample(u8),
+    Refused(u8),
+}
+
+/// A block was written, or the number of the refusal, which writes nothing.
+pub enum Predicted {
+    Done,
+    Refused(u8),
+}
+
+/// The rows of a plane that are read as lines: row `first`, then every `step`-th, `count` of them. A frame and its fields differ in these
+/// numbers alone.
+struct Rows {
+    first: usize,
+    step: usize,
+    count: usize,
+}
+
+// ---- vectors
+
+impl HalfPattern {
+    pub fn from_flags(half_horiz: bool, half_vert: bool) -> Self
+        ensures { λ r. ⌜ r ≡ patternOf «half_horiz» «half_vert» ⌝ }
+    {
+        if half_horiz {
+            if half_vert {
+                return HalfPattern::HalfBoth;
+            }
+            return HalfPattern::HalfHorizontal;
+        }
+        if half_vert {
+            return HalfPattern::HalfVertical;
+        }
+        HalfPattern::Integer
+    }
+
+    pub fn flags(self) -> HalfFlags
+        ensures { λ r. ⌜ (r .horizontal ≡ horizontalHalf self) × (r .vertical ≡ verticalHalf self) ⌝ }
+    {
+        match self {
+            HalfPattern::Integer => HalfFlags {
+                horizontal: false,
+                vertical: false,
+            },
+            HalfPattern::HalfHorizontal => HalfFlags {
+                horizontal: true,
+                vertical: false,
+            },
+            HalfPattern::HalfVertical => HalfFlags {
+                horizontal: false,
+                vertical: true,
+            },
+            HalfPattern::HalfBoth => HalfFlags {
+                horizontal: true,
+                vertical: true,
+            },
+        }
+    }
+
+    /// Whether more than one sample is read.
+    pub fn is_half_pel(self) -> bool
+        ensures { λ r. ⌜ r ≡ (horizontalHalf self || verticalHalf self) ⌝ }
+    {
+        match self {
+            HalfPattern::Integer => false,
+            HalfPattern::HalfHorizontal => true,
+            HalfPattern::HalfVertical => true,
+            HalfPattern::HalfBoth => true,
+        }
+    }
+}
+
+impl SplitVector {
+    pub fn pattern(self) -> HalfPattern
+        ensures { λ r. ⌜ r ≡ patternOf (self .horizontal .«half_flag») (self .vertical .«half_flag») ⌝ }
+    {
+        HalfPattern::from_flags(self.horizontal.half_flag, self.vertical.half_flag)
+    }
+}
+
+/// The whole part, floored: a shift, since division would truncate.
+fn whole_part(vector: i32) -> i32
+    ensures { λ r. ⌜ r ≡ floorHalf vector ⌝ }
+{
+    vector >> 1
+}
+
+fn is_half(vector: i32) -> bool
+    ensures { λ r. ⌜ r ≡ halfFlag vector ⌝ }
+{
+    vector & 1 != 0
+}
+
+pub fn split_component(vector: i32) -> ComponentSplit
+    ensures { λ r. ⌜ IsSplit vector r ⌝ }
+{
+    ComponentSplit {
+        int_vec: whole_part(vector),
+        half_flag: is_half(vector),
+    }
+}
+
+pub fn split_vector(horizontal: i32, vertical: i32) -> SplitVector
+    ensures { λ r. ⌜ IsSplit horizontal (r .horizontal) × IsSplit vertical (r .vertical) ⌝ }
+{
+    SplitVector {
+        horizontal: split_component(horizontal),
+        vertical: split_component(vertical),
+    }
+}
+
+// ---- reading a plane
+
+/// A coordinate, moved into 0..n - 1.
+fn clamp_to(n: usize, v: i32) -> usize
+    ensures { λ r. ⌜ r ≡ clampTo n v ⌝ }
+{
+    if v < 0 {
+        return 0;
+    }
+    let u = v as usize;
+    if u < n {
+        return u;
+    }
+    if n == 0 {
+        return 0;
+    }
+    n - 1
+}
+
+impl FieldReference {
+    /// The number of the field's lines. It is a difference for the top field, since `height + 1` may be too large a number.
+    pub fn height(self) -> usize
+        ensures { λ r. ⌜ r ≡ fieldLines (self .parity) (self .plane .height) ⌝ }
+    {
+        let h = self.plane.height;
+        let parity = self.parity;
+        match parity {
+            FieldParity::Top => h - h / 2,
+            FieldParity::Bottom => h / 2,
+        }
+    }
+}
+
+fn frame_rows(height: usize) -> Rows
+    ensures { λ r. ⌜ ReadsAs frame height r ⌝ }
+{
+    Rows {
+        first: 0,
+        step: 1,
+        count: height,
+    }
+}
+
+/// A field without lines reads the plane's only row.
+fn bottom_rows(height: usize) -> Rows
+    ensures { λ r. ⌜ ReadsAs (field Bottom) height r ⌝ }
+{
+    if height <= 1 {
+        return Rows {
+            first: 0,
+            step: 1,
+            count: height,
+        };
+    }
+    Rows {
+        first: 1,
+        step: 2,
+        count: height / 2,
+    }
+}
+
+fn field_rows(reference: FieldReference) -> Rows
+    ensures { λ r. ⌜ ReadsAs (field (reference .parity)) (reference .plane .height) r ⌝ }
+{
+    let h = reference.plane.height;
+    let parity = reference.parity;
+    match parity {
+        FieldParity::Top => Rows {
+            first: 0,
+            step: 2,
+            count: h - h / 2,
+        },
+        FieldParity::Bottom => bottom_rows(h),
+    }
+}
+
+/// The place of a line's first sample.
+fn line_start(first: usize, step: usize, width: usize, line: usize) -> usize
+    requires { ⌜ (first ≤ 1) × (step ≤ 2) × (width ≤ 16384) × (line ≤ 16384) ⌝ }
+    ensures { λ r. ⌜ r ≡ lineStart first step width line ⌝ }
+{
+    (first + step * line) * width
+}
+
+/// A coordinate, n further.
+fn shifted(position: i32, n: usize) -> i32
+    requires { ⌜ Reach position × (n ≤ 17) ⌝ }
+    ensures { λ r. ⌜ r ≡ position +ℤ pos n ⌝ }
+{
+    position + n as i32
+}
+
+fn sample_at(
+    samples: &[u8],
+    width: usize,
+    first: usize,
+    step: usize,
+    count: usize,
+    x: i32,
+    y: i32,
+) -> u8
+    requires { ⌜ ViewFits (now samples) width first step count ⌝ }
+    ensures { λ r. ⌜ r ≡ viewRead (now (samples .entry)) width first step count x y ⌝ }
+{
+    let start = line_start(first, step, width, clamp_to(count, y));
+    samples[start + clamp_to(width, x)]
+}
+
+/// The mean of four samples, a half rounded up.
+fn avg4(a: u8, b: u8, c: u8, d: u8) -> u8
+    ensures { λ r. ⌜ r ≡ mean4 a b c d ⌝ }
+{
+    ((a as u16 + b as u16 + c as u16 + d as u16 + 2) / 4) as u8
+}
+
+/// One predicted sample, with a step of `dx` to the right neighbour and of `dy` to the one below.
+fn form_sample(
+    samples: &[u8],
+    width: usize,
+    first: usize,
+    step: usize,
+    count: usize,
+    x: i32,
+    y: i32,
+    dx: usize,
+    dy: usize,
+) -> u8
+    requires { ⌜ ViewFits (now samples) width first step count × (dx ≤ 1) × (dy ≤ 1) ⌝ }
+    requires { ⌜ Reach x × Reach y ⌝ }
+    ensures { λ r. ⌜ r ≡ spread (viewRead (now (samples .entry)) width first step count) x y dx dy ⌝ }
+{
+    let right = shifted(x, dx);
+    let below = shifted(y, dy);
+    avg4(
+        sample_at(samples, width, first, step, count, x, y),
+        sample_at(samples, width, first, step, count, right, y),
+        sample_at(samples, width, first, step, count, x, below),
+        sample_at(samples, width, first, step, count, right, below),
+    )
+}
+
+// ---- rows of samples
+
+fn copy_samples(from: &[u8], out: &mut [u8])
+    requires { ⌜ length (now out) ≡ length (now from) ⌝ }
+    ensures { λ r. ⌜ now (out .exit) ≡ now (from .entry) ⌝ }
+{
+    let mut k: usize = 0;
+    while k < out.len() {
+        out[k] = from[k];
+        k += 1;
+    }
+}
+
+fn mean2_samples(a: &[u8], b: &[u8], out: &mut [u8])
+    requires { ⌜ (length (now b) ≡ length (now a)) × (length (now out) ≡ length (now a)) ⌝ }
+    ensures { λ r. ⌜ now (out .exit) ≡ averaged (now (a .entry)) (now (b .entry)) ⌝ }
+{
+    average_predictions(a, b, out);
+}
+
+fn mean4_samples(a: &[u8], b: &[u8], c: &[u8], d: &[u8], out: &mut [u8])
+    requires { ⌜ (length (now b) ≡ length (now a)) × (length (now c) ≡ length (now a)) × (length (now d) ≡ length (now a)) × (length (now out) ≡ length (now a)) ⌝ }
+    ensures { λ r. ⌜ now (out .exit) ≡ tabulate (length (now (a .entry))) (λ (k : ℕ). mean4 (getD (now (a .entry)) k 0) (getD (now (b .entry)) k 0) (getD (now (c .entry)) k 0) (getD (now (d .entry)) k 0)) ⌝ }
+{
+    let mut k: usize = 0;
+    while k < out.len() {
+        out[k] = avg4(a[k], b[k], c[k], d[k]);
+        k += 1;
+    }
+}
+
+/// Two samples each. A row of 16 goes through a local array: there the loop has a fixed length and writes nothing that it might read,
+/// and it compiles to a few instructions.
+fn two_row(row: &[u8], below: &[u8], x: usize, dx: usize, out: &mut [u8])
+    requires { ⌜ RowFits (now row) (now below) x dx (length (now out)) ⌝ }
+    ensures { λ r. ⌜ now (out .exit) ≡ tabulate (length (now (out .entry))) (twoOf (now (row .entry)) (now (below .entry)) x dx) ⌝ }
+{
+    let n = out.len();
+    let right = x + dx;
+    let e = x + n;
+    let f = right + n;
+    if n == 16 {
+        let mut local = [0u8; 16];
+        mean2_samples(&row[x..e], &below[right..f], &mut local);
+        copy_samples(&local, out);
+        return;
+    }
+    mean2_samples(&row[x..e], &below[right..f], out);
+}
+
+/// Four samples each.
+fn four_row(row: &[u8], below: &[u8], x: usize, dx: usize, out: &mut [u8])
+    requires { ⌜ RowFits (now row) (now below) x dx (length (now out)) ⌝ }
+    ensures { λ r. ⌜ now (out .exit) ≡ tabulate (length (now (out .entry))) (fourOf (now (row .entry)) (now (below .entry)) x dx) ⌝ }
+{
+    let n = out.len();
+    let right = x + dx;
+    let e = x + n;
+    let f = right + n;
+    mean4_samples(
+        &row[x..e],
+        &row[right..f],
+        &below[x..e],
+        &below[right..f],
+        out,
+    );
+}
+
+/// A row of predicted samples out of two rows of the plane, which are one where `dy` is 0. Unless both steps are 1, two samples are
+/// enough.
+fn form_row(row: &[u8], below: &[u8], x: usize, dx: usize, dy: usize, out: &mut [u8])
+    requires { ⌜ RowFits (now row) (now below) x dx (length (now out)) × (dx ≤ 1) × (dy ≤ 1) × (dy ≡ 0 → now below ≡ now row) ⌝ }
+    ensures { λ r. ⌜ now (out .exit) ≡ tabulate (length (now (out .entry))) (fourOf (now (row .entry)) (now (below .entry)) x dx) ⌝ }
+{
+    if dx + dy == 2 {
+        four_row(row, below, x, dx, out);
+        return;
+    }
+    two_row(row, below, x, dx, out);
+}
+
+/// A row of a block from line y on: the plane's rows are handed on as parts of its bytes.
+fn form_line(
+    samples: &[u8],
+    width: usize,
+    first: usize,
+    step: usize,
+    count: usize,
+    x: usize,
+    y: usize,
+    dx: usize,
+    dy: usize,
+    out: &mut [u8],
+)
+    requires { ⌜ ViewFits (now samples) width first step count × Inside width count x y dx dy (length (now out)) 1 × (dx ≤ 1) × (dy ≤ 1) ⌝ }
+    ensures { λ r. ⌜ now (out .exit) ≡ tabulate (length (now (out .entry))) (lineCell (now (samples .entry)) width first step count (pos x) (pos y) dx dy) ⌝ }
+{
+    let a = line_start(first, step, width, y);
+    let b = line_start(first, step, width, y + dy);
+    let e = a + width;
+    let f = b + width;
+    form_row(&samples[a..e], &samples[b..f], x, dx, dy, out);
+}
+
+/// A block whose reads all lie inside: nothing is clamped.
+fn form_inside(
+    samples: &[u8],
+    width: usize,
+    first: usize,
+    step: usize,
+    count: usize,
+    x: usize,
+    y: usize,
+    dx: usize,
+    dy: usize,
+    block_width: usize,
+    block_height: usize,
+    out: &mut [u8],
+)
+    requires { ⌜ ViewFits (now samples) width first step count × BlockFits dx dy «block_width» «block_height» (now out) × Inside width count x y dx dy «block_width» «block_height» ⌝ }
+    ensures { λ r. ⌜ now (out .exit) ≡ viewBlock (now (samples .entry)) width first step count (pos x) (pos y) dx dy «block_width» «block_height» ⌝ }
+{
+    let mut r: usize = 0;
+    while r < block_height {
+        let o = r * block_width;
+        let e = o + block_width;
+        form_line(
+            samples,
+            width,
+            first,
+            step,
+            count,
+            x,
+            y + r,
+            dx,
+            dy,
+            &mut out[o..e],
+        );
+        r += 1;
+    }
+}
+
+// ---- blocks that reach past an edge
+
+/// The columns that a block reads, clamped.
+fn clamp_columns(width: usize, x: i32, columns: &mut [usize])
+    requires { ⌜ Reach x × (length (now columns) ≤ 17) ⌝ }
+    ensures { λ r. ⌜ now (columns .exit) ≡ tabulate (length (now (columns .entry))) (columnAt width x) ⌝ }
+{
+    let mut k: usize = 0;
+    while k < columns.len() {
+        columns[k] = clamp_to(width, shifted(x, k));
+        k += 1;
+    }
+}
+
+fn pick_columns(row: &[u8], columns: &[usize], out: &mut [u8])
+    requires { ⌜ ColumnsFit (now columns) (length (now row)) × (length (now out) ≡ length (now columns)) ⌝ }
+    ensures { λ r. ⌜ now (out .exit) ≡ tabulate (length (now (out .entry))) (λ (k : ℕ). getD (now (row .entry)) (getD (now (columns .entry)) k 0) 0) ⌝ }
+{
+    let mut k: usize = 0;
+    while k < out.len() {
+        out[k] = row[columns[k]];
+        k += 1;
+    }
+}
+
+/// The samples of one line in these columns.
+fn fetch_line(
+    samples: &[u8],
+    width: usize,
+    first: usize,
+    step: usize,
+    count: usize,
+    columns: &[usize],
+    y: i32,
+    out: &mut [u8],
+)
+    requires { ⌜ ViewFits (now samples) width first step count × ColumnsFit (now columns) width × (length (now out) ≡ length (now columns)) ⌝ }
+    ensures { λ r. ⌜ now (out .exit) ≡ tabulate (length (now (out .entry))) (picked (now (samples .entry)) width first step count (now (columns .entry)) y) ⌝ }
+{
+    let a = line_start(first, step, width, clamp_to(count, y));
+    let e = a + width;
+    pick_columns(&samples[a..e], columns, out);
+}
+
+/// The samples of `height` lines in these columns, from line y on.
+fn fetch_lines(
+    samples: &[u8],
+    width: usize,
+    first: usize,
+    step: usize,
+    count: usize,
+    columns: &[usize],
+    y: i32,
+    height: usize,
+    out: &mut [u8],
+)
+    requires { ⌜ ViewFits (now samples) width first step count × ColumnsFit (now columns) width × Reach y × (height ≤ 17) × (length (now out) ≡ length (now columns) * height) ⌝ }
+    ensures { λ r. ⌜ now (out .exit) ≡ tabulate (length (now (columns .entry)) * height) (λ (k : ℕ). picked (now (samples .entry)) width first step count (now (columns .entry)) (y +ℤ pos (k / length (now (columns .entry)))) (k % length (now (columns .entry)))) ⌝ }
+{
+    let n = columns.len();
+    let mut r: usize = 0;
+    while r < height {
+        let o = r * n;
+        let e = o + n;
+        fetch_line(
+            samples,
+            width,
+            first,
+            step,
+            count,
+            columns,
+            shifted(y, r),
+            &mut out[o..e],
+        );
+        r += 1;
+    }
+}
+
+/// The samples that a block reads, with `columns` as room for its columns.
+fn fetch(
+    samples: &[u8],
+    width: usize,
+    first: usize,
+    step: usize,
+    count: usize,
+    x: i32,
+    y: i32,
+    columns: &mut [usize],
+    height: usize,
+    out: &mut [u8],
+)
+    requires { ⌜ ViewFits (now samples) width first step count × Reach x × Reach y × FetchFits (now columns) height (now out) ⌝ }
+    ensures { λ r. ⌜ now (out .exit) ≡ blockOf (length (now (columns .entry))) height (viewRead (now (samples .entry)) width first step count) x y ⌝ }
+{
+    clamp_columns(width, x, columns);
+    fetch_lines(samples, width, first, step, count, columns, y, height, out);
+}
+
+/// A block that reaches past an edge: what it reads is copied to `region`, and nothing is outside there.
+fn form_region(
+    samples: &[u8],
+    width: usize,
+    first: usize,
+    step: usize,
+    count: usize,
+    x: i32,
+    y: i32,
+    dx: usize,
+    dy: usize,
+    block_width: usize,
+    block_height: usize,
+    columns: &mut [usize],
+    region: &mut [u8],
+    out: &mut [u8],
+)
+    requires { ⌜ ViewFits (now samples) width first step count × Reach x × Reach y ⌝ }
+    requires { ⌜ BlockFits dx dy «block_width» «block_height» (now out) × RegionFits (now columns) (now region) dx dy «block_width» «block_height» ⌝ }
+    ensures { λ r. ⌜ now (out .exit) ≡ viewBlock (now (samples .entry)) width first step count x y dx dy «block_width» «block_height» ⌝ }
+{
+    let w = block_width + dx;
+    let h = block_height + dy;
+    fetch(samples, width, first, step, count, x, y, columns, h, region);
+    form_inside(
+        region,
+        w,
+        0,
+        1,
+        h,
+        0,
+        0,
+        dx,
+        dy,
+        block_width,
+        block_height,
+        out,
+    );
+}
+
+/// Where no sample is a mean, what is read is the block.
+fn form_plain(
+    samples: &[u8],
+    width: usize,
+    first: usize,
+    step: usize,
+    count: usize,
+    x: i32,
+    y: i32,
+    block_width: usize,
+    block_height: usize,
+    columns: &mut [usize],
+    out: &mut [u8],
+)
+    requires { ⌜ ViewFits (now samples) width first step count × Reach x × Reach y × BlockFits 0 0 «block_width» «block_height» (now out) × (length (now columns) ≡ 17) ⌝ }
+    ensures { λ r. ⌜ now (out .exit) ≡ viewBlock (now (samples .entry)) width first step count x y 0 0 «block_width» «block_height» ⌝ }
+{
+    fetch(
+        samples,
+        width,
+        first,
+        step,
+        count,
+        x,
+        y,
+        &mut columns[0..block_width],
+        block_height,
+        out,
+    );
+}
+
+/// Where samples are means, what is read goes to the front of `region`.
+fn form_mean(
+    samples: &[u8],
+    width: usize,
+    first: usize,
+    step: usize,
+    count: usize,
+    x: i32,
+    y: i32,
+    dx: usize,
+    dy: usize,
+    block_width: usize,
+    block_height: usize,
+    columns: &mut [usize],
+    region: &mut [u8],
+    out: &mut [u8],
+)
+    requires { ⌜ ViewFits (now samples) width first step count × Reach x × Reach y ⌝ }
+    requires { ⌜ BlockFits dx dy «block_width» «block_height» (now out) × (length (now columns) ≡ 17) × (length (now region) ≡ 289) ⌝ }
+    ensures { λ r. ⌜ now (out .exit) ≡ viewBlock (now (samples .entry)) width first step count x y dx dy «block_width» «block_height» ⌝ }
+{
+    let w = block_width + dx;
+    let n = w * (block_height + dy);
+    form_region(
+        samples,
+        width,
+        first,
+        step,
+        count,
+        x,
+        y,
+        dx,
+        dy,
+        block_width,
+        block_height,
+        &mut columns[0..w],
+        &mut region[0..n],
+        out,
+    );
+}
+
+/// A block that reaches past an edge, with room for the 17 × 17 samples that it may read.
+fn form_clamped(
+    samples: &[u8],
+    width: usize,
+    first: usize,
+    step: usize,
+    count: usize,
+    x: i32,
+    y: i32,
+    dx: usize,
+    dy: usize,
+    block_width: usize,
+    block_height: usize,
+    out: &mut [u8],
+)
+    requires { ⌜ ViewFits (now samples) width first step count × Reach x × Reach y × BlockFits dx dy «block_width» «block_height» (now out) ⌝ }
+    ensures { λ r. ⌜ now (out .exit) ≡ viewBlock (now (samples .entry)) width first step count x y dx dy «block_width» «block_height» ⌝ }
+{
+    let mut columns = [0usize; 17];
+    if dx + dy == 0 {
+        form_plain(
+            samples,
+            width,
+            first,
+            step,
+            count,
+            x,
+            y,
+            block_width,
+            block_height,
+            &mut columns,
+            out,
+        );
+        return;
+    }
+    let mut region = [0u8; 289];
+    form_mean(
+        samples,
+        width,
+        first,
+        step,
+        count,
+        x,
+        y,
+        dx,
+        dy,
+        block_width,
+        block_height,
+        &mut columns,
+        &mut region,
+        out,
+    );
+}
+
+/// Whether n places from `position` on lie below the limit.
+fn is_inside(position: i32, n: usize, limit: usize) -> bool
+    requires { ⌜ n ≤ 17 ⌝ }
+    ensures { λ r. ⌜ r ≡ insideOf position n limit ⌝ }
+{
+    if position < 0 {
+        return false;
+    }
+    position as usize + n <= limit
+}
+
+/// A block of a view, from (x, y) on.
+fn form(
+    samples: &[u8],
+    width: usize,
+    first: usize,
+    step: usize,
+    count: usize,
+    x: i32,
+    y: i32,
+    dx: usize,
+    dy: usize,
+    block_width: usize,
+    block_height: usize,
+    out: &mut [u8],
+)
+    requires { ⌜ ViewFits (now samples) width first step count × Reach x × Reach y × BlockFits dx dy «block_width» «block_height» (now out) ⌝ }
+    ensures { λ r. ⌜ now (out .exit) ≡ viewBlock (now (samples .entry)) width first step count x y dx dy «block_width» «block_height» ⌝ }
+{
+    if is_inside(x, dx + block_width, width) & is_inside(y, dy + block_height, count) {
+        form_inside(
+            samples,
+            width,
+            first,
+            step,
+            count,
+            x as usize,
+            y as usize,
+            dx,
+            dy,
+            block_width,
+            block_height,
+            out,
+        );
+        return;
+    }
+    form_clamped(
+        samples,
+        width,
+        first,
+        step,
+        count,
+        x,
+        y,
+        dx,
+        dy,
+        block_width,
+        block_height,
+        out,
+    );
+}
+
+/// An empty plane's block.
+fn clear(out: &mut [u8])
+    ensures { λ r. ⌜ now (out .exit) ≡ tabulate (length (now (out .entry))) (λ (k : ℕ). 0) ⌝ }
+{
+    let mut k: usize = 0;
+    while k < out.len() {
+        out[k] = 0;
+        k += 1;
+    }
+}
