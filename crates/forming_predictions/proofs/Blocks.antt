@@ -207,7 +207,7 @@ module _ (s : List ℕ) (w first step count : ℕ) (x y : ℤ) (dx dy bw bh : �
       (λ k p. rw (zero-add (k % bw), zero-add (k / bw)) (region-cell (k % bw) (k / bw) (mod-lt k q) (block-row bw bh k q p)))
 
 -- ---- where nothing is a mean, what is read is the block
-plus-none : (z : ℤ) → z +ℤ pos 0 ≡ z
+pub plus-none : (z : ℤ) → z +ℤ pos 0 ≡ z
 plus-none z = eq-z (z +ℤ pos 0) z (omega (arith, add-z z (pos 0)))
 
 pub spread-none : (read : ℤ → ℤ → ℕ) (x y : ℤ) → spread read x y 0 0 ≡ read x y

@@ -4,3 +4,7 @@ pub mod Lines
 pub mod Views
 pub mod RowMeans
 pub mod Blocks
+pub mod Forming
+pub mod Refusals
+pub mod SampleAnswers
+pub mod BlockAnswers

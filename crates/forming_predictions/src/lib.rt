@@ -5,7 +5,7 @@ use combine_predictions::average_predictions;
 ghost use mathlib.Core.Path.{_≡_};
 ghost use mathlib.Core.Bool.{_||_};
 ghost use Prim.Native.Nat.{ℕ, _+_, _*_, _/_, _%_, _≤_, _<_};
-ghost use lib.IntN.{pos, _+ℤ_};
+ghost use lib.IntN.{ℤ, pos, _+ℤ_};
 ghost use lib.ListN.{length, getD};
 ghost use Rattle.laws.specs.Tabulate.{tabulate};
 ghost use Rattle.combine_predictions.specs.Refusals.{unlessRefused};
@@ -15,7 +15,8 @@ ghost use Rattle.forming_predictions.specs.Splitting.{floorHalf, halfFla
 ghost use Rattle.forming_predictions.specs.Lines.{frame, field, fieldLines, clampTo, sampleAt};
 ghost use Rattle.forming_predictions.specs.Means.{mean4, rounded};
 ghost use Rattle.forming_predictions.specs.Forming.{formed, blockOf};
-ghost use Rattle.forming_predictions.specs.Refusals.{planeFits, positionFits, blockSideFits, planeRefusal, lastSample, sampleRefusal, blockRefusal};
+ghost use Rattle.laws.proofs.Bounded.{Within};
+ghost use Rattle.forming_predictions.specs.Refusals.{planeFits, positionFits, blockSideFits, planeRefusal, sampleRefusal, blockRefusal};
 ghost use Rattle.forming_predictions.specs.SampleAnswers.{sampleNumber, sampleAnswer};
 ghost use Rattle.forming_predictions.specs.BlockAnswers.{blockNumber, blockAnswer};
 ghost use Rattle.forming_predictions.specs.inner.Views.{lineStart, viewRead, spread, twoOf, fourOf, lineCell, picked, columnAt, viewBlock, ViewFits, BlockFits, RowFits, Inside, ColumnsFit, FetchFits, RegionFits, insideOf, Reach, RowsFit, ReadsAs, rowsSample, bitOf};
@@ -802,5 +803,247 @@ fn clear(out: &mut [u8])
     while k < out.len() {
         out[k] = 0;
         k += 1;
+    }
+}
+
+// ---- vectors, and the rows that are read
+
+/// A position, moved by the whole part of a vector.
+fn moved(position: i32, vector: i32) -> i32
+    requires { ⌜ Within 32782 position ⌝ }
+    ensures { λ r. ⌜ (r ≡ position +ℤ floorHalf vector) × Reach r ⌝ }
+{
+    position + whole_part(vector)
+}
+
+/// The step to the neighbour that a half asks for.
+fn half_step(vector: i32) -> usize
+    ensures { λ r. ⌜ (r ≡ bitOf (halfFlag vector)) × (r ≤ 1) ⌝ }
+{
+    if is_half(vector) {
+        return 1;
+    }
+    0
+}
+
+fn read_rows(rows: Rows, plane: ReferencePlane, samples: &[u8], x: i32, y: i32) -> u8
+    requires { ⌜ RowsFit rows (plane .height) × (planeRefusal (plane .width) (plane .height) (length (now samples)) ≡ 0) ⌝ }
+    ensures { λ r. ⌜ r ≡ rowsSample rows (plane .width) (plane .height) (now (samples .entry)) x y ⌝ }
+{
+    if samples.len() == 0 {
+        return 0;
+    }
+    sample_at(
+        samples,
+        plane.width,
+        rows.first,
+        rows.step,
+        rows.count,
+        x,
+        y,
+    )
+}
+
+fn form_rows_sample(
+    rows: Rows,
+    plane: ReferencePlane,
+    samples: &[u8],
+    x: i32,
+    y: i32,
+    horizontal: i32,
+    vertical: i32,
+) -> u8
+    requires { ⌜ RowsFit rows (plane .height) × (sampleRefusal (plane .width) (plane .height) (length (now samples)) x y ≡ 0) ⌝ }
+    ensures { λ r. ⌜ r ≡ formed rounded (rowsSample rows (plane .width) (plane .height) (now (samples .entry))) x y horizontal vertical ⌝ }
+{
+    if samples.len() == 0 {
+        return 0;
+    }
+    form_sample(
+        samples,
+        plane.width,
+        rows.first,
+        rows.step,
+        rows.count,
+        moved(x, horizontal),
+        moved(y, vertical),
+        half_step(horizontal),
+        half_step(vertical),
+    )
+}
+
+fn form_rows(
+    rows: Rows,
+    plane: ReferencePlane,
+    samples: &[u8],
+    x: i32,
+    y: i32,
+    size: BlockSize,
+    horizontal: i32,
+    vertical: i32,
+    out: &mut [u8],
+)
+    requires { ⌜ RowsFit rows (plane .height) × (blockRefusal (plane .width) (plane .height) (length (now samples)) x y (size .width) (size .height) (length (now out)) ≡ 0) ⌝ }
+    ensures { λ r. ⌜ now (out .exit) ≡ blockOf (size .width) (size .height) (λ (a b : ℤ). formed rounded (rowsSample rows (plane .width) (plane .height) (now (samples .entry))) a b horizontal vertical) x y ⌝ }
+{
+    if samples.len() == 0 {
+        clear(out);
+        return;
+    }
+    form(
+        samples,
+        plane.width,
+        rows.first,
+        rows.step,
+        rows.count,
+        moved(x, horizontal),
+        moved(y, vertical),
+        half_step(horizontal),
+        half_step(vertical),
+        size.width,
+        size.height,
+        out,
+    );
+}
+
+// ---- refusals
+
+fn plane_fits(plane: ReferencePlane, length: usize) -> bool
+    ensures { λ r. ⌜ r ≡ planeFits (plane .width) (plane .height) length ⌝ }
+{
+    if plane.width > 16384 {
+        return false;
+    }
+    if plane.height > 16384 {
+        return false;
+    }
+    length == plane.width * plane.height
+}
+
+fn position_fits(last: i32, position: i32) -> bool
+    ensures { λ r. ⌜ r ≡ positionFits last position ⌝ }
+{
+    (-32768 <= position) & (position <= last)
+}
+
+fn block_side_fits(side: usize) -> bool
+    ensures { λ r. ⌜ r ≡ blockSideFits side ⌝ }
+{
+    (1 <= side) & (side <= 16)
+}
+
+fn plane_refusal(plane: ReferencePlane, length: usize) -> u8
+    ensures { λ r. ⌜ r ≡ planeRefusal (plane .width) (plane .height) length ⌝ }
+{
+    if plane_fits(plane, length) {
+        return 0;
+    }
+    OUTSIDE_DOMAIN
+}
+
+fn sample_refusal(plane: ReferencePlane, length: usize, x: i32, y: i32) -> u8
+    ensures { λ r. ⌜ r ≡ sampleRefusal (plane .width) (plane .height) length x y ⌝ }
+{
+    if !plane_fits(plane, length) {
+        return OUTSIDE_DOMAIN;
+    }
+    if !(position_fits(32782, x) & position_fits(32782, y)) {
+        return OUTSIDE_DOMAIN;
+    }
+    0
+}
+
+fn block_refusal(
+    plane: ReferencePlane,
+    length: usize,
+    x: i32,
+    y: i32,
+    size: BlockSize,
+    room: usize,
+) -> u8
+    ensures { λ r. ⌜ r ≡ blockRefusal (plane .width) (plane .height) length x y (size .width) (size .height) room ⌝ }
+{
+    if !plane_fits(plane, length) {
+        return OUTSIDE_DOMAIN;
+    }
+    if !(block_side_fits(size.width) & block_side_fits(size.height)) {
+        return OUTSIDE_DOMAIN;
+    }
+    if !(position_fits(32767, x) & position_fits(32767, y)) {
+        return OUTSIDE_DOMAIN;
+    }
+    if room != size.width * size.height {
+        return WRONG_LENGTH;
+    }
+    0
+}
+
+// ---- the calls, for the rows of a frame or a field
+
+fn sample_rows(rows: Rows, plane: ReferencePlane, samples: &[u8], x: i32, y: i32) -> Sampled
+    requires { ⌜ RowsFit rows (plane .height) ⌝ }
+    ensures number { λ r. ⌜ sampleNumber r ≡ planeRefusal (plane .width) (plane .height) (length (now (samples .entry))) ⌝ }
+    ensures answer { λ r. ⌜ r ≡ sampleAnswer (sampleNumber r) (rowsSample rows (plane .width) (plane .height) (now (samples .entry)) x y) ⌝ }
+{
+    let number = plane_refusal(plane, samples.len());
+    if number != 0 {
+        return Sampled::Refused(number);
+    }
+    Sampled::Sample(read_rows(rows, plane, samples, x, y))
+}
+
+fn predict_rows_sample(
+    rows: Rows,
+    plane: ReferencePlane,
+    samples: &[u8],
+    x: i32,
+    y: i32,
+    horizontal: i32,
+    vertical: i32,
+) -> Sampled
+    requires { ⌜ RowsFit rows (plane .height) ⌝ }
+    ensures number { λ r. ⌜ sampleNumber r ≡ sampleRefusal (plane .width) (plane .height) (length (now (samples .entry))) x y ⌝ }
+    ensures answer { λ r. ⌜ r ≡ sampleAnswer (sampleNumber r) (formed rounded (rowsSample rows (plane .width) (plane .height) (now (samples .entry))) x y horizontal vertical) ⌝ }
+{
+    let number = sample_refusal(plane, samples.len(), x, y);
+    if number != 0 {
+        return Sampled::Refused(number);
+    }
+    Sampled::Sample(form_rows_sample(rows, plane, samples, x, y, horizontal, vertical))
+}
+
+fn predict_rows_block(
+    rows: Rows,
+    plane: ReferencePlane,
+    samples: &[u8],
+    x: i32,
+    y: i32,
+    size: BlockSize,
+    horizontal: i32,
+    vertical: i32,
+    out: &mut [u8],
+) -> Predicted
+    requires { ⌜ RowsFit rows (plane .height) ⌝ }
+    ensures answer { λ r. ⌜ r ≡ blockAnswer (blockRefusal (plane .width) (plane .height) (length (now (samples .entry))) x y (size .width) (size .height) (length (now (out .entry)))) ⌝ }
+    ensures buffer { λ r. ⌜ now (out .exit) ≡ unlessRefused (blockNumber r) (blockOf (size .width) (size .height) (λ (a b : ℤ). formed rounded (rowsSample rows (plane .width) (plane .height) (now (samples .entry))) a b horizontal vertical) x y) (now (out .entry)) ⌝ }
+{
+    let number = block_refusal(plane, samples.len(), x, y, size, out.len());
+    if number != 0 {
+        return Predicted::Refused(number);
+    }
+    form_rows(rows, plane, samples, x, y, size, horizontal, vertical, out);
+    Predicted::Done
+}
+
+// ---- the calls
+
+impl ReferencePlane {
+    /// The sample at (x, y), which is clamped to the plane: any position is taken. It refuses a plane that is outside the domain or whose
+    /// samples are not width times height.
+    pub fn sample(self, samples: &[u8], x: i32, y: i32) -> Sampled
+        ensures number { λ r. ⌜ sampleNumber r ≡ planeRefusal (self .width) (self .height) (length (now (samples .entry))) ⌝ }
+        ensures answer { λ r. ⌜ r ≡ sampleAnswer (sampleNumber r) (sampleAt frame (self .width) (self .height) (now (samples .entry)) x y) ⌝ }
+    {
+        sample_rows(frame_rows(self.height), self, samples, x, y)
     }
 }

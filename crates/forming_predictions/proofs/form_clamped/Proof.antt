@@ -19,8 +19,7 @@ slice-aggregate-form-plain c = search needs
 form-plain-requires : tie.Need-form-plain-requires
 form-plain-requires c κs =
     let t = c .before .before in
-    let s = t .before .before .before in
-    (
+    let s = t .before .before .before in (
       s .pre .0,
       rw (toZ-ofZ (s .fits .x)) (s .pre .1),
       rw (toZ-ofZ (s .fits .y)) (s .pre .2),
@@ -49,8 +48,7 @@ slice-aggregate-form-mean-2 c = search needs
 
 form-mean-requires : tie.Need-form-mean-requires
 form-mean-requires c κs =
-    let s = c .before .before .before .before .before .before in
-    (
+    let s = c .before .before .before .before .before .before in (
       (s .pre .0, rw (toZ-ofZ (s .fits .x)) (s .pre .1), rw (toZ-ofZ (s .fits .y)) (s .pre .2)),
       (s .pre .3, refl, refl),
     )

@@ -39,8 +39,7 @@ part-form-region-end-2 c =
 form-region-requires : tie.Need-form-region-requires
 form-region-requires c κs =
     let s = c .before .before .before .before .before .before .before in
-    let b = s .pre .1 in
-    (
+    let b = s .pre .1 in (
       (s .pre .0 .0, rw (toZ-ofZ (s .fits .x)) (s .pre .0 .1), rw (toZ-ofZ (s .fits .y)) (s .pre .0 .2)),
       (b .0, front-region (s .args .columns .now) (s .args .region .now) (b .0) (b .1) (b .2)),
     )

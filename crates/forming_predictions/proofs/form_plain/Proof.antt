@@ -21,8 +21,7 @@ part-fetch-end c = search needs
 
 fetch-requires : tie.Need-fetch-requires
 fetch-requires c κs =
-    let s = c .before .before .before .before .before in
-    (
+    let s = c .before .before .before .before .before in (
       s .pre .0,
       rw (toZ-ofZ (s .fits .x)) (s .pre .1),
       rw (toZ-ofZ (s .fits .y)) (s .pre .2),

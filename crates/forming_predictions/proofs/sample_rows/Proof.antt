@@ -1,0 +1,29 @@
+-- `sample_rows` meets its contract: what is not refused is answered.
+-- Assumes nothing.
+use mathlib.Core.Path.{_≡_, refl, sym, ap, _∙_}
+use mir.Facts.{toZ-ofZ}
+use Rattle.forming_predictions.specs.declared.Sampled.the-variants.{Sample}
+use Rattle.forming_predictions.proofs.SampleAnswers.{refused-sample}
+use borrow.Author.Needs.{needs}
+use Rattle.forming_predictions.proofs.sample_rows.Statement.{statement}
+use Rattle.forming_predictions.proofs.sample_rows.Tie as tie
+
+plane-refusal-requires : tie.Need-plane-refusal-requires
+plane-refusal-requires c κs = search needs
+
+returns : tie.Need-returns
+returns c =
+    let n = c .before .plane-refusal in
+    (n .ensures, refused-sample (n .result) _ (c .if1 .taken))
+
+read-rows-requires : tie.Need-read-rows-requires
+read-rows-requires c κs = search needs
+
+returns-2 : tie.Need-returns-2
+returns-2 c =
+    let e = c .before in
+    let s = e .before .before .before in
+    (sym (e .if1 .left) ∙ ((e .before .plane-refusal .ensures)), ap Sample (rw (toZ-ofZ (s .fits .x), toZ-ofZ (s .fits .y)) at (c .read-rows .ensures)))
+
+pub sample-rows-spec : {M : Type 1} → statement M
+sample-rows-spec = tie.close (tie.spec plane-refusal-requires returns read-rows-requires returns-2)
