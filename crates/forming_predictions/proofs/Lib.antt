@@ -8,3 +8,4 @@ pub mod Forming
 pub mod Refusals
 pub mod SampleAnswers
 pub mod BlockAnswers
+pub mod Cases

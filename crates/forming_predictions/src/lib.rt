@@ -1047,3 +1047,116 @@ impl ReferencePlane {
         sample_rows(frame_rows(self.height), self, samples, x, y)
     }
 }
+
+impl FieldReference {
+    /// The sample of the field at (x, y): y is clamped to the field's lines, x to the plane.
+    pub fn sample(self, samples: &[u8], x: i32, y: i32) -> Sampled
+        ensures number { λ r. ⌜ sampleNumber r ≡ planeRefusal (self .plane .width) (self .plane .height) (length (now (samples .entry))) ⌝ }
+        ensures answer { λ r. ⌜ r ≡ sampleAnswer (sampleNumber r) (sampleAt (field (self .parity)) (self .plane .width) (self .plane .height) (now (samples .entry)) x y) ⌝ }
+    {
+        sample_rows(field_rows(self), self.plane, samples, x, y)
+    }
+}
+
+/// The predicted sample at (x, y), by a vector in half samples. It refuses a plane as `sample` does, and a position outside −32,768 to
+/// 32,782.
+pub fn predict_sample(
+    reference: ReferencePlane,
+    samples: &[u8],
+    x: i32,
+    y: i32,
+    horizontal: i32,
+    vertical: i32,
+) -> Sampled
+    ensures number { λ r. ⌜ sampleNumber r ≡ sampleRefusal (reference .width) (reference .height) (length (now (samples .entry))) x y ⌝ }
+    ensures answer { λ r. ⌜ r ≡ sampleAnswer (sampleNumber r) (formed rounded (sampleAt frame (reference .width) (reference .height) (now (samples .entry))) x y horizontal vertical) ⌝ }
+{
+    predict_rows_sample(
+        frame_rows(reference.height),
+        reference,
+        samples,
+        x,
+        y,
+        horizontal,
+        vertical,
+    )
+}
+
+/// The same from a field: y and the vector count the field's lines.
+pub fn predict_field_sample(
+    reference: FieldReference,
+    samples: &[u8],
+    x: i32,
+    y: i32,
+    horizontal: i32,
+    vertical: i32,
+) -> Sampled
+    ensures number { λ r. ⌜ sampleNumber r ≡ sampleRefusal (reference .plane .width) (reference .plane .height) (length (now (samples .entry))) x y ⌝ }
+    ensures answer { λ r. ⌜ r ≡ sampleAnswer (sampleNumber r) (formed rounded (sampleAt (field (reference .parity)) (reference .plane .width) (reference .plane .height) (now (samples .entry))) x y horizontal vertical) ⌝ }
+{
+    predict_rows_sample(
+        field_rows(reference),
+        reference.plane,
+        samples,
+        x,
+        y,
+        horizontal,
+        vertical,
+    )
+}
+
+/// Writes the predicted block, row after row, to `out`; its first sample is at (top_left_x, top_left_y). It refuses a plane as `sample`
+/// does, a block side outside 1 to 16, a position outside −32,768 to 32,767, and then an output that is not width times height bytes
+/// long; a refusal writes nothing.
+pub fn predict_block(
+    reference: ReferencePlane,
+    samples: &[u8],
+    top_left_x: i32,
+    top_left_y: i32,
+    size: BlockSize,
+    horizontal: i32,
+    vertical: i32,
+    out: &mut [u8],
+) -> Predicted
+    ensures answer { λ r. ⌜ r ≡ blockAnswer (blockRefusal (reference .width) (reference .height) (length (now (samples .entry))) «top_left_x» «top_left_y» (size .width) (size .height) (length (now (out .entry)))) ⌝ }
+    ensures buffer { λ r. ⌜ now (out .exit) ≡ unlessRefused (blockNumber r) (blockOf (size .width) (size .height) (λ (x y : ℤ). formed rounded (sampleAt frame (reference .width) (reference .height) (now (samples .entry))) x y horizontal vertical) «top_left_x» «top_left_y») (now (out .entry)) ⌝ }
+{
+    predict_rows_block(
+        frame_rows(reference.height),
+        reference,
+        samples,
+        top_left_x,
+        top_left_y,
+        size,
+        horizontal,
+        vertical,
+        out,
+    )
+}
+
+/// The same from a field: the position and the vector count the field's lines.
+pub fn predict_field_block(
+    reference: FieldReference,
+    samples: &[u8],
+    top_left_x: i32,
+    top_left_y: i32,
+    size: BlockSize,
+    horizontal: i32,
+    vertical: i32,
+    out: &mut [u8],
+) -> Predicted
+    ensures answer { λ r. ⌜ r ≡ blockAnswer (blockRefusal (reference .plane .width) (reference .plane .height) (length (now (samples .entry))) «top_left_x» «top_left_y» (size .width) (size .height) (length (now (out .entry)))) ⌝ }
+    ensures buffer { λ r. ⌜ now (out .exit) ≡ unlessRefused (blockNumber r) (blockOf (size .width) (size .height) (λ (x y : ℤ). formed rounded (sampleAt (field (reference .parity)) (reference .plane .width) (reference .plane .height) (now (samples .entry))) x y horizontal vertical) «top_left_x» «top_left_y») (now (out .entry)) ⌝ }
+{
+    predict_rows_block(
+        field_rows(reference),
+        reference.plane,
+        samples,
+        top_left_x,
+        top_left_y,
+        size,
+        horizontal,
+        vertical,
+        out,
+    )
+}

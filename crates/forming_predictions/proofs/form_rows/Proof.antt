@@ -71,8 +71,7 @@ form-requires c κs =
     let e = m2 .before .before in
     let s = start e in
     let r = right s in
-    let p = r .plane in
-    (
+    let p = r .plane in (
       rows-view (s .pre .0) (p .wide) (p .high) (p .count) (omega (arith, e .if1 .left)),
       rw (back w32 (m2 .before .moved .result) (m2 .before .moved .ok)) (m2 .before .moved .ensures .1),
       rw (back w32 (m2 .moved2 .result) (m2 .moved2 .ok)) (m2 .moved2 .ensures .1),
@@ -107,7 +106,7 @@ returns-2 c =
       rw (toZ-ofZ (s .fits .horizontal)) at (h1 .half-step .ensures .0),
       rw (toZ-ofZ (s .fits .vertical)) at (h2 .half-step2 .ensures .0),
     )
-        at (f .form .ensures))
+    at (f .form .ensures))
     ∙ view-block (a .rows) (a .plane .width) (a .plane .height) (a .samples .now) (a .size .width) (a .size .height) (a .x) (a .y) (a .horizontal) (a .vertical) (sides .0) (sides .1)
 
 pub form-rows-spec : {M : Type 1} → statement M

@@ -60,8 +60,7 @@ form-sample-requires c κs =
     let m2 = c .before .before in
     let e = m2 .before .before in
     let s = start e in
-    let p = right s .plane in
-    (
+    let p = right s .plane in (
       (rows-view (s .pre .0) (p .wide) (p .high) (p .count) (omega (arith, e .if1 .left)), c .before .half-step .ensures .1, c .half-step2 .ensures .1),
       (rw (back w32 (m2 .before .moved .result) (m2 .before .moved .ok)) (m2 .before .moved .ensures .1), rw (back w32 (m2 .moved2 .result) (m2 .moved2 .ok)) (m2 .moved2 .ensures .1)),
     )
@@ -82,7 +81,7 @@ returns-2 c =
       rw (toZ-ofZ (s .fits .horizontal)) at (h1 .half-step .ensures .0),
       rw (toZ-ofZ (s .fits .vertical)) at (h2 .half-step2 .ensures .0),
     )
-        at (c .form-sample .ensures))
+    at (c .form-sample .ensures))
     ∙ view-formed (a .rows) (a .plane .width) (a .plane .height) (a .samples .now) (a .x) (a .y) (a .horizontal) (a .vertical) (sides .0) (sides .1)
 
 pub form-rows-sample-spec : {M : Type 1} → statement M

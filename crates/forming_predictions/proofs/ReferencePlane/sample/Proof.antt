@@ -20,12 +20,11 @@ returns c =
     let f = c .before in
     let s = f .before .before in
     let a = s .args in
-    let r = c .sample-rows in
-    (
+    let r = c .sample-rows in (
       r .ensures .0,
       (rw (toZ-ofZ (s .fits .x), toZ-ofZ (s .fits .y)) at (r .ensures .1))
-      ∙ ap (sampleAnswer (sampleNumber (r .result)))
-      (rows-sample frame (a .self .height) (f .frame-rows .result) (f .frame-rows .ensures) (a .self .width) (a .samples .now) (a .x) (a .y)),
+          ∙ ap (sampleAnswer (sampleNumber (r .result)))
+          (rows-sample frame (a .self .height) (f .frame-rows .result) (f .frame-rows .ensures) (a .self .width) (a .samples .now) (a .x) (a .y)),
     )
 
 pub sample-spec : {M : Type 1} → statement M
