@@ -4,6 +4,7 @@ use mathlib.Core.Bool.{Bool, _&&_, cond}
 use mathlib.Core.List.{List, [], _∷_}
 use Prim.Native.Nat.{ℕ, _+_, _*_, _-_}
 use lib.Dec.{eqb, leb, ltb}
+use lib.Signed.{ltZ}
 use lib.IntN.{ℤ, pos, negsuc, negℤ}
 use lib.ListN.{length, getD, drop}
 use Rattle.lists.specs.declared.Class.the-variants.{Digit}
@@ -45,3 +46,9 @@ pub record NumberAt (s : List ℕ) (at : ℕ) (r : Number) : Type 0 where
 abbrev pub natOf : ℤ → ℕ
 natOf (pos n) = n
 natOf (negsuc n) = 0
+
+-- the nearest number from -2^31 to 2^31 - 1
+abbrev pub i32Of : ℤ → ℤ
+i32Of v =
+    cond (ltZ v (negsuc 2147483647)) (negsuc 2147483647)
+    (cond (ltZ (pos 2147483647) v) (pos 2147483647) v)

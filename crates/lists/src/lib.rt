@@ -7,7 +7,7 @@ ghost use lib.IntN.{pos, negℤ};
 ghost use lib.ListN.{length, take, drop};
 ghost use Rattle.laws.specs.Tabulate.{tabulate};
 ghost use Rattle.lists.specs.Text.{inClass, runEnd, place, wordStart, wordEnd, wordAt, lineEnds, nextAt};
-ghost use Rattle.lists.specs.Numbers.{digitOf, decimal, isNatural, naturalOf, isNumber, numberOf, NumberAt, natOf};
+ghost use Rattle.lists.specs.Numbers.{digitOf, decimal, isNatural, naturalOf, isNumber, numberOf, NumberAt, natOf, i32Of};
 ghost use Rattle.lists.specs.ByteStrings.{hexOf, bytesOf, isBytes, stored, ramp, BytesAt};
 
 /// Classes of bytes.
@@ -254,6 +254,19 @@ pub fn byte_of(v: i64) -> u8
         return 255;
     }
     n as u8
+}
+
+/// A number as an i32, or the nearest one where it is none.
+pub fn i32_of(v: i64) -> i32
+    ensures { λ r. ⌜ r ≡ i32Of v ⌝ }
+{
+    if v < -2147483648 {
+        return -2147483648;
+    }
+    if v > 2147483647 {
+        return 2147483647;
+    }
+    v as i32
 }
 
 fn hex_digit(b: u8) -> u8
