@@ -32,13 +32,19 @@ struct Setting {
     good: bool,
 }
 
+/// The same, for a plane of growing bytes, and the first of them.
+struct Ramp {
+    setting: Setting,
+    first: u8,
+}
+
 struct Stepped {
     tally: Tally,
     plane: Plane,
 }
 
 fn is_i32(v: i64) -> bool {
-    lists::i32_of(v) as i64 == v
+    (v >= -2147483648) & (v <= 2147483647)
 }
 
 fn is_flag(v: i64) -> bool {
@@ -88,10 +94,14 @@ fn splitting(s: &[u8], at: usize) -> Judged {
     let half_flag = lists::read_number(s, int_vec.next);
     let split = forming_predictions::split_component(lists::i32_of(vector.value));
     Judged {
-        agrees: (split.int_vec as i64 == int_vec.value)
+        agrees: (split.int_vec == lists::i32_of(int_vec.value))
             & (number_of_flag(split.half_flag) == half_flag.value),
         next: half_flag.next,
-        good: vector.good & int_vec.good & half_flag.good & is_i32(vector.value),
+        good: vector.good
+            & int_vec.good
+            & half_flag.good
+            & is_i32(vector.value)
+            & is_i32(int_vec.value),
     }
 }
 
@@ -111,9 +121,9 @@ fn splitting_both(s: &[u8], at: usize) -> Judged {
     let across = split.horizontal;
     let down = split.vertical;
     Judged {
-        agrees: (across.int_vec as i64 == int_x.value)
+        agrees: (across.int_vec == lists::i32_of(int_x.value))
             & (number_of_flag(across.half_flag) == half_x.value)
-            & (down.int_vec as i64 == int_y.value)
+            & (down.int_vec == lists::i32_of(int_y.value))
             & (number_of_flag(down.half_flag) == half_y.value)
             & (number_of_pattern(split.pattern()) == pattern.value),
         next: pattern.next,
@@ -125,7 +135,9 @@ fn splitting_both(s: &[u8], at: usize) -> Judged {
             & half_y.good
             & pattern.good
             & is_i32(horizontal.value)
-            & is_i32(vertical.value),
+            & is_i32(vertical.value)
+            & is_i32(int_x.value)
+            & is_i32(int_y.value),
     }
 }
 
@@ -204,31 +216,40 @@ fn set_bytes(s: &[u8], at: usize, samples: &mut [u8]) -> Setting {
     }
 }
 
-/// `6 WIDTH HEIGHT LENGTH FIRST`, from WIDTH on.
-fn set_ramp(s: &[u8], at: usize, samples: &mut [u8]) -> Setting {
+/// `6 WIDTH HEIGHT LENGTH FIRST`, from WIDTH on, for a buffer of `room` bytes.
+fn read_ramp(s: &[u8], at: usize, room: usize) -> Ramp {
     let width = lists::read_number(s, at);
     let height = lists::read_number(s, width.next);
     let length = lists::read_number(s, height.next);
     let first = lists::read_number(s, length.next);
-    lists::fill(samples, lists::byte_of(first.value));
-    Setting {
-        plane: Plane {
-            width: lists::size_of(width.value),
-            height: lists::size_of(height.value),
-            length: lists::size_of(length.value),
+    Ramp {
+        setting: Setting {
+            plane: Plane {
+                width: lists::size_of(width.value),
+                height: lists::size_of(height.value),
+                length: lists::size_of(length.value),
+            },
+            next: first.next,
+            good: width.good
+                & height.good
+                & length.good
+                & first.good
+                & (width.value >= 0)
+                & (height.value >= 0)
+                & (length.value >= 0)
+                & (lists::size_of(length.value) <= room)
+                & (first.value >= 0)
+                & (first.value <= 255),
         },
-        next: first.next,
-        good: width.good
-            & height.good
-            & length.good
-            & first.good
-            & (width.value >= 0)
-            & (height.value >= 0)
-            & (length.value >= 0)
-            & (lists::size_of(length.value) <= samples.len())
-            & (first.value >= 0)
-            & (first.value <= 255),
+        first: lists::byte_of(first.value),
     }
+}
+
+fn set_ramp(s: &[u8], at: usize, samples: &mut [u8]) -> Setting {
+    let r = read_ramp(s, at, samples.len());
+    let setting = r.setting;
+    lists::fill(samples, r.first);
+    setting
 }
 
 fn sample_from(from: i64, plane: ReferencePlane, samples: &[u8], x: i32, y: i32) -> Sampled {
@@ -537,6 +558,7 @@ fn judge(s: &[u8], t: Tally, kind: i64, at: usize, plane: Plane, samples: &[u8])
 
 /// A line that sets the plane counts as a case that agrees.
 fn set(s: &[u8], t: Tally, setting: Setting) -> Stepped {
+    let plane = setting.plane;
     Stepped {
         tally: count(
             s,
@@ -547,7 +569,7 @@ fn set(s: &[u8], t: Tally, setting: Setting) -> Stepped {
                 good: setting.good,
             },
         ),
-        plane: setting.plane,
+        plane: plane,
     }
 }
 
