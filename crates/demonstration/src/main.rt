@@ -1,6 +1,12 @@
-//! Shows what is built so far, on eight samples: the mean of two predictions, a choice of one, and both refusals.
+//! Shows what is built so far: blocks predicted from a small plane, of its frame and of a field; the mean of two predictions and a
+//! choice of one; and refusals.
 use combine_predictions::Averaged;
 use combine_predictions::PredictionDirection;
+use forming_predictions::BlockSize;
+use forming_predictions::FieldParity;
+use forming_predictions::FieldReference;
+use forming_predictions::Predicted;
+use forming_predictions::ReferencePlane;
 use libc::STDOUT_FILENO;
 
 fn say(text: &[u8]) {
@@ -37,7 +43,146 @@ fn choose<'a>(direction: PredictionDirection, forward: &'a [u8], backward: &'a [
     samples(combine_predictions::combine_directional_predictions(direction, forward, backward));
 }
 
-fn main() {
+/// A plane of eight columns and six rows.
+fn plane() -> ReferencePlane {
+    ReferencePlane {
+        width: 8,
+        height: 6,
+    }
+}
+
+fn answer(a: Predicted, out: &[u8]) {
+    match a {
+        Predicted::Done => samples(out),
+        Predicted::Refused(n) => {
+            say(b" refused, ");
+            number(n);
+            say(b"; the output keeps");
+            samples(out);
+        }
+    }
+}
+
+/// The block of four columns and two rows at (x, y), by a vector in half samples.
+fn predict(plane_samples: &[u8], x: i32, y: i32, horizontal: i32, vertical: i32, out: &mut [u8]) {
+    let size = BlockSize {
+        width: 4,
+        height: 2,
+    };
+    let a = forming_predictions::predict_block(
+        plane(),
+        plane_samples,
+        x,
+        y,
+        size,
+        horizontal,
+        vertical,
+        out,
+    );
+    answer(a, out);
+}
+
+/// The same from the bottom field.
+fn predict_bottom(
+    plane_samples: &[u8],
+    x: i32,
+    y: i32,
+    horizontal: i32,
+    vertical: i32,
+    out: &mut [u8],
+) {
+    let size = BlockSize {
+        width: 4,
+        height: 2,
+    };
+    let bottom = FieldReference {
+        plane: plane(),
+        parity: FieldParity::Bottom,
+    };
+    let a = forming_predictions::predict_field_block(
+        bottom,
+        plane_samples,
+        x,
+        y,
+        size,
+        horizontal,
+        vertical,
+        out,
+    );
+    answer(a, out);
+}
+
+fn form() {
+    let rows = [
+        10u8,
+        20,
+        30,
+        40,
+        50,
+        60,
+        70,
+        80,
+        11,
+        21,
+        31,
+        41,
+        51,
+        61,
+        71,
+        81,
+        12,
+        22,
+        32,
+        42,
+        52,
+        62,
+        72,
+        82,
+        13,
+        23,
+        33,
+        43,
+        53,
+        63,
+        73,
+        83,
+        14,
+        24,
+        34,
+        44,
+        54,
+        64,
+        74,
+        84,
+        15,
+        25,
+        35,
+        45,
+        55,
+        65,
+        75,
+        85,
+    ];
+    let mut block = [0u8; 8];
+    let mut short = [7u8; 3];
+    say(
+        b"a plane of 8 columns; row r, column c holds 10 (c + 1) + r; blocks of 4 columns and 2 rows\n",
+    );
+    say(b"at (2, 1), vector (0, 0)               ");
+    predict(&rows, 2, 1, 0, 0, &mut block);
+    say(b"at (2, 1), vector (-3, 1)              ");
+    predict(&rows, 2, 1, -3, 1, &mut block);
+    say(b"at (2, 1), vector (7, 0), past an edge ");
+    predict(&rows, 2, 1, 7, 0, &mut block);
+    say(b"bottom field, at (2, 1), vector (0, 1) ");
+    predict_bottom(&rows, 2, 1, 0, 1, &mut block);
+    say(b"a plane of 47 samples                  ");
+    predict(&rows[..47], 2, 1, 0, 0, &mut block);
+    say(b"an output of 3                         ");
+    predict(&rows, 2, 1, 0, 0, &mut short);
+}
+
+fn combine() {
     let forward = [0u8, 255, 16, 17, 100, 101, 235, 240];
     let backward = [1u8, 255, 17, 17, 50, 50, 16, 241];
     let three = [9u8; 3];
@@ -57,4 +202,9 @@ fn main() {
     average(&forward, &three, &mut short);
     say(b"an output of 3 for 8   ");
     average(&forward, &backward, &mut short);
+}
+
+fn main() {
+    form();
+    combine();
 }
