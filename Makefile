@@ -2,13 +2,14 @@
 # make test            the gate: prove everything from nothing, try the must-fail edits, run the programs
 # make differential    build the Rust original and see that the lists in the repository are its answers
 # make lists           make those lists anew
-# The last two need cargo and the Rust original. FOZDRIK_RUST is the folder that holds its LICENSE and src/, by default
+# make bench           measure the port beside the Rust original, and print a table
+# The last three need cargo and the Rust original. FOZDRIK_RUST is the folder that holds its LICENSE and src/, by default
 # ../shared/docs/src; a relative path starts here.
 
 RT ?= rt
 CARGO ?= cargo
 
-.PHONY: all test differential lists clean
+.PHONY: all test differential lists bench clean
 
 all:
 	@mkdir -p build
@@ -23,6 +24,12 @@ differential:
 
 lists:
 	cd differential && $(CARGO) run --release --offline --bin lists
+
+bench:
+	@mkdir -p build/bench
+	@$(RT) staticlib bench_blocks >build/bench.log 2>&1 || { tail -n 40 build/bench.log; exit 1; }
+	@cp target/staticlib/libbench_blocks.a build/bench/
+	cd differential && $(CARGO) run --release --offline --features bench --bin bench
 
 clean:
 	rm -rf build target

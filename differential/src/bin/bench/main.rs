@@ -63,8 +63,8 @@ fn run(repetitions: usize) -> Result<(), String> {
         "{repetitions} repetitions of {CALLS} calls, by turns of the Rust original (release \
          build) and of Fozdrik, with the same inputs: a plane of {WIDTH} × {HEIGHT} drawn \
          samples, drawn positions and vectors. Times are in ns a block, medians over the \
-         repetitions; the ratio is Fozdrik's to Rust's; the quartiles are Rust's, then \
-         Fozdrik's. Both gave the same bytes."
+         repetitions, and how many times as fast Fozdrik is by them; the quartiles are the \
+         Rust's, then Fozdrik's. Both gave the same bytes."
     );
     println!();
     println!(
@@ -72,16 +72,16 @@ fn run(repetitions: usize) -> Result<(), String> {
          Fozdrik writes to a lent buffer. The last row is that part alone."
     );
     println!();
-    println!("| what | Rust ns | Fozdrik ns | ratio | quartiles |");
+    println!("| what | Rust ns | Fozdrik ns | times as fast | quartiles |");
     println!("|---|---|---|---|---|");
     for row in &rows {
         let (rust, fozdrik) = measure(plane, row, repetitions);
         println!(
-            "| {} | {:.1} | {:.1} | {:.2} | {:.1}–{:.1}, {:.1}–{:.1} |",
+            "| {} | {:.1} | {:.1} | {:.1} | {:.1}–{:.1}, {:.1}–{:.1} |",
             row.what,
             rust.median,
             fozdrik.median,
-            fozdrik.median / rust.median,
+            rust.median / fozdrik.median,
             rust.lower,
             rust.upper,
             fozdrik.lower,
