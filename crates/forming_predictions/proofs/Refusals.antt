@@ -123,3 +123,52 @@ high-plane w h n p q = rw (le-leb w 16384 p, lt-leb h 16384 q)
 pub counted-plane : (w h n : ℕ) → w ≤ 16384 → h ≤ 16384 → eqb n (w * h) ≡ planeFits w h n
 unfolding planeFits
 counted-plane w h n p q = rw (le-leb w 16384 p, le-leb h 16384 q)
+
+-- ---- several tests for one number
+one-cause : (a b : Bool) (n : ℕ) → cause (not (a && b)) n ≡ orElse (cause (not a) n) (cause (not b) n)
+one-cause true b n = refl
+one-cause false b zero = at b
+  where
+    at : (b : Bool) → 0 ≡ cause (not b) 0
+    at true = refl
+    at false = refl
+one-cause false b (suc n) = refl
+
+pub sample-cause : (w h n : ℕ) (x y : ℤ)
+    → cause (not (planeFits w h n && (positionFits lastSample x && positionFits lastSample y))) outsideDomain ≡ sampleRefusal w h n x y
+unfolding sampleRefusal
+sample-cause w h n x y = one-cause (planeFits w h n) (positionFits lastSample x && positionFits lastSample y) 14
+
+-- a block's 14, and what follows it
+domain-then : (a b c : Bool) (n : ℕ)
+    → orElse (cause (not (a && (b && c))) 14) n ≡ orElse (cause (not a) 14) (orElse (cause (not b) 14) (orElse (cause (not c) 14) n))
+domain-then true true true n = refl
+domain-then true true false n = refl
+domain-then true false c n = refl
+domain-then false b c n = refl
+
+pub block-cause : (w h n : ℕ) (x y : ℤ) (bw bh o : ℕ)
+    → orElse (cause (not (planeFits w h n && ((blockSideFits bw && blockSideFits bh) && (positionFits lastBlock x && positionFits lastBlock y)))) outsideDomain)
+    (cause (not (eqb o (bw * bh))) wrongLength)
+    ≡ blockRefusal w h n x y bw bh o
+unfolding blockRefusal
+block-cause w h n x y bw bh o =
+    domain-then (planeFits w h n) (blockSideFits bw && blockSideFits bh) (positionFits lastBlock x && positionFits lastBlock y) (cause (not (eqb o (bw * bh))) wrongLength)
+
+-- the sides of a block that fits
+pub sides-fit : (p r : Bool) (bw bh : ℕ) → cause (not (p && ((blockSideFits bw && blockSideFits bh) && r))) outsideDomain ≡ 0 → (bw ≤ 16) × (bh ≤ 16)
+sides-fit p r bw bh e =
+    let a = both p ((blockSideFits bw && blockSideFits bh) && r) (no-cause (p && ((blockSideFits bw && blockSideFits bh) && r)) 14 (omega arith) e) in
+    let b = both (blockSideFits bw && blockSideFits bh) r (a .1) in
+    let c = both (blockSideFits bw) (blockSideFits bh) (b .0) in
+    (side-range bw (c .0) .1, side-range bh (c .1) .1)
+
+-- a number that is given ends the chain
+pub first-cause : (m n : ℕ) → (m ≡ 0 → ⊥) → m ≡ orElse m n
+first-cause zero n h = absurd (h refl)
+first-cause (suc m) n h = refl
+
+-- and one that is none leaves the rest of it
+pub next-cause : (m n k : ℕ) → m ≡ 0 → n ≡ k → k ≡ orElse m n
+next-cause zero n k e f = sym f
+next-cause (suc m) n k e f = absurd (omega arith)

@@ -3,12 +3,12 @@
 use combine_predictions::WRONG_LENGTH;
 use combine_predictions::average_predictions;
 ghost use mathlib.Core.Path.{_≡_};
-ghost use mathlib.Core.Bool.{_||_};
+ghost use mathlib.Core.Bool.{not, _||_};
 ghost use Prim.Native.Nat.{ℕ, _+_, _*_, _/_, _%_, _≤_, _<_};
 ghost use lib.IntN.{ℤ, pos, _+ℤ_};
 ghost use lib.ListN.{length, getD};
 ghost use Rattle.laws.specs.Tabulate.{tabulate};
-ghost use Rattle.combine_predictions.specs.Refusals.{unlessRefused};
+ghost use Rattle.combine_predictions.specs.Refusals.{cause, unlessRefused};
 ghost use Rattle.combine_predictions.specs.Averaging.{averaged};
 ghost use Rattle.forming_predictions.specs.declared.FieldParity.the-variants.{Bottom};
 ghost use Rattle.forming_predictions.specs.Splitting.{floorHalf, halfFlag, IsSplit, patternOf, horizontalHalf, verticalHalf};
@@ -16,7 +16,7 @@ ghost use Rattle.forming_predictions.specs.Lines.{frame, field, fieldLin
 ghost use Rattle.forming_predictions.specs.Means.{mean4, rounded};
 ghost use Rattle.forming_predictions.specs.Forming.{formed, blockOf};
 ghost use Rattle.laws.proofs.Bounded.{Within};
-ghost use Rattle.forming_predictions.specs.Refusals.{planeFits, positionFits, blockSideFits, planeRefusal, sampleRefusal, blockRefusal};
+ghost use Rattle.forming_predictions.specs.Refusals.{outsideDomain, planeFits, positionFits, blockSideFits, planeRefusal, sampleRefusal, blockRefusal};
 ghost use Rattle.forming_predictions.specs.SampleAnswers.{sampleNumber, sampleAnswer};
 ghost use Rattle.forming_predictions.specs.BlockAnswers.{blockNumber, blockAnswer};
 ghost use Rattle.forming_predictions.specs.inner.Views.{lineStart, viewRead, spread, twoOf, fourOf, lineCell, picked, columnAt, viewBlock, ViewFits, BlockFits, RowFits, Inside, ColumnsFit, FetchFits, RegionFits, insideOf, Reach, RowsFit, ReadsAs, rowsSample, bitOf};
@@ -932,25 +932,26 @@ fn block_side_fits(side: usize) -> bool
     (1 <= side) & (side <= 16)
 }
 
-fn plane_refusal(plane: ReferencePlane, length: usize) -> u8
-    ensures { λ r. ⌜ r ≡ planeRefusal (plane .width) (plane .height) length ⌝ }
+/// 14 unless what a call is given fits the domain.
+fn domain_refusal(fits: bool) -> u8
+    ensures { λ r. ⌜ r ≡ cause (not fits) outsideDomain ⌝ }
 {
-    if plane_fits(plane, length) {
+    if fits {
         return 0;
     }
     OUTSIDE_DOMAIN
 }
 
+fn plane_refusal(plane: ReferencePlane, length: usize) -> u8
+    ensures { λ r. ⌜ r ≡ planeRefusal (plane .width) (plane .height) length ⌝ }
+{
+    domain_refusal(plane_fits(plane, length))
+}
+
 fn sample_refusal(plane: ReferencePlane, length: usize, x: i32, y: i32) -> u8
     ensures { λ r. ⌜ r ≡ sampleRefusal (plane .width) (plane .height) length x y ⌝ }
 {
-    if !plane_fits(plane, length) {
-        return OUTSIDE_DOMAIN;
-    }
-    if !(position_fits(32782, x) & position_fits(32782, y)) {
-        return OUTSIDE_DOMAIN;
-    }
-    0
+    domain_refusal(plane_fits(plane, length) & (position_fits(32782, x) & position_fits(32782, y)))
 }
 
 fn block_refusal(
@@ -963,14 +964,11 @@ fn block_refusal(
 ) -> u8
     ensures { λ r. ⌜ r ≡ blockRefusal (plane .width) (plane .height) length x y (size .width) (size .height) room ⌝ }
 {
-    if !plane_fits(plane, length) {
-        return OUTSIDE_DOMAIN;
-    }
-    if !(block_side_fits(size.width) & block_side_fits(size.height)) {
-        return OUTSIDE_DOMAIN;
-    }
-    if !(position_fits(32767, x) & position_fits(32767, y)) {
-        return OUTSIDE_DOMAIN;
+    let sides = block_side_fits(size.width) & block_side_fits(size.height);
+    let positions = position_fits(32767, x) & position_fits(32767, y);
+    let domain = domain_refusal(plane_fits(plane, length) & (sides & positions));
+    if domain != 0 {
+        return domain;
     }
     if room != size.width * size.height {
         return WRONG_LENGTH;

@@ -1,6 +1,8 @@
 -- `plane_refusal` meets its contract.
 -- Assumes nothing.
-use mathlib.Core.Path.{refl, sym, _∙_}
+use mathlib.Core.Path.{_∙_, ap}
+use mathlib.Core.Bool.{Bool, not}
+use Rattle.combine_predictions.specs.Refusals.{cause}
 use borrow.Author.Needs.{needs}
 use Rattle.forming_predictions.proofs.plane_refusal.Statement.{statement}
 use Rattle.forming_predictions.proofs.plane_refusal.Tie as tie
@@ -8,11 +10,11 @@ use Rattle.forming_predictions.proofs.plane_refusal.Tie as tie
 plane-fits-requires : tie.Need-plane-fits-requires
 plane-fits-requires c κs = search needs
 
-returns : tie.Need-returns
-returns c = rw (sym (c .before .plane-fits .ensures) ∙ c .if1 .taken)
+domain-refusal-requires : tie.Need-domain-refusal-requires
+domain-refusal-requires c κs = search needs
 
-returns-2 : tie.Need-returns-2
-returns-2 c = rw (sym (c .before .plane-fits .ensures) ∙ c .if1 .left)
+returns : tie.Need-returns
+returns c = c .domain-refusal .ensures ∙ ap (λ (b : Bool). cause (not b) 14) (c .before .plane-fits .ensures)
 
 pub plane-refusal-spec : {M : Type 1} → statement M
-plane-refusal-spec = tie.close (tie.spec plane-fits-requires returns returns-2)
+plane-refusal-spec = tie.close (tie.spec plane-fits-requires domain-refusal-requires returns)
