@@ -37,7 +37,7 @@ room c =
     omega (
       arith,
       filled-length (c .before .loop .inv .1),
-      row-in (c .before .loop .r) (s .args .height) (length (s .args .columns .now)) (c .loop-test .taken),
+      row-in (c .before .loop .r) (s .args .height) (length (s .args .columns .now)) (omega (arith, c .loop-test .taken)),
       s .pre .4,
     )
 

@@ -33,7 +33,7 @@ room c =
     omega (
       arith,
       filled-length (c .before .loop .inv .1),
-      row-in (c .before .loop .r) (s .args .block-height) (s .args .block-width) (c .loop-test .taken),
+      row-in (c .before .loop .r) (s .args .block-height) (s .args .block-width) (omega (arith, c .loop-test .taken)),
       s .pre .1 .count,
     )
 

@@ -1,5 +1,8 @@
 -- `whole_part` meets its contract: the shift is the floor of half.
 -- Assumes nothing.
+use mathlib.Core.Path.{_∙_}
+use lib.Signed.{shrZ}
+use mir.Syntax.{w32}
 use mir.Facts.{toZ-ofZ}
 use Rattle.forming_predictions.proofs.Splitting.{half-is, floor-fits}
 use Rattle.forming_predictions.proofs.whole_part.Statement.{statement}
@@ -9,7 +12,7 @@ returns : tie.Need-returns
 returns c =
     let v = c .args .vector in
     let f = c .fits .vector in
-    rw (toZ-ofZ f, half-is v, toZ-ofZ (floor-fits f))
+    rw (toZ-ofZ f) (toZ-ofZ {w = w32} {z = shrZ v 2} (rw (half-is v) (floor-fits f)) ∙ half-is v)
 
 pub whole-part-spec : {M : Type 1} → statement M
 whole-part-spec = tie.close (tie.spec returns)
