@@ -3,15 +3,14 @@
 use mathlib.Core.Path.{_≡_, refl, sym, ap, _∙_}
 use mathlib.Core.Bool.{Bool, true, false}
 use mathlib.Core.List.{List}
-use Prim.Native.Nat.{ℕ, _+_, _*_, _/_, _%_, _≤_, _<_}
+use Prim.Native.Nat.{ℕ, _+_, _*_, _/_, _%_, _<_}
 use native.Mathlib.Omega.{arith}
 use lib.IntN.{ℤ, pos, _+ℤ_}
-use lib.ListN.{length}
 use mir.Syntax.{w32}
 use mir.Val.{SFits}
 use Rattle.laws.specs.Tabulate.{tabulate}
-use Rattle.laws.proofs.Signed.{zp, zn, eq-z, add-z}
-use Rattle.laws.proofs.Bounded.{Within, within-add, within-more, within-fits, fits-within}
+use Rattle.laws.proofs.Signed.{eq-z, add-z}
+use Rattle.laws.proofs.Bounded.{Within, within-add, within-fits, fits-within}
 use Rattle.laws.proofs.Tabulated.{tab-ext}
 use Rattle.forming_predictions.specs.Splitting.{floorHalf, halfFlag}
 use Rattle.forming_predictions.specs.Lines.{Lines, sampleAt}

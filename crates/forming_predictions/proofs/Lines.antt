@@ -1,14 +1,12 @@
 -- Laws of clamping and of the lines that are read.
 -- Assumes nothing.
 use mathlib.Core.Path.{_≡_, refl}
-use mathlib.Core.Bool.{Bool, true, false, cond}
-use Prim.Native.Nat.{ℕ, _+_, _-_, _*_, _/_, _≤_, _<_, min}
+use Prim.Native.Nat.{ℕ, _+_, _-_, _*_, _/_, _<_, min}
 use native.Mathlib.Omega.{arith}
-use lib.Dec.{eqb}
 use lib.IntN.{ℤ, pos, negsuc}
-use borrow.Author.Tests.{eqb-false, eq-eqb, ne-eqb}
-use Rattle.laws.proofs.Signed.{zp, zn}
-use Rattle.forming_predictions.specs.Lines.{Lines, frame, field, parityRow, fieldLines, clampTo, rowOf}
+use borrow.Author.Tests.{eq-eqb, ne-eqb}
+use Rattle.laws.proofs.Signed.{zp}
+use Rattle.forming_predictions.specs.Lines.{frame, field, parityRow, fieldLines, clampTo, rowOf}
 use Rattle.forming_predictions.specs.declared.FieldParity.{FieldParity}
 use Rattle.forming_predictions.specs.declared.FieldParity.the-variants.{Top, Bottom}
 

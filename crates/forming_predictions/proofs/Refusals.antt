@@ -1,21 +1,21 @@
--- When each number is given, and what an accepted call's numbers are.
+-- What an accepted call's numbers are, and when each number is given.
 -- Assumes nothing.
-use mathlib.Core.Path.{_≡_, refl, sym, ap, _∙_}
+use mathlib.Core.Path.{_≡_, refl, sym, _∙_}
 use mathlib.Core.Bool.{Bool, true, false, not, _&&_}
-use Prim.Native.Nat.{ℕ, zero, suc, _+_, _*_, _≤_, _<_}
+use Prim.Native.Nat.{ℕ, zero, suc, _*_, _≤_, _<_}
 use native.Mathlib.Nat.{mul-le-mul}
 use native.Mathlib.Omega.{arith}
 use lib.Dec.{leb, eqb}
 use lib.IntN.{ℤ, pos, negsuc}
 use lib.Signed.{leZ}
-use borrow.Author.Tests.{leb-true, eqb-true, le-leb, lt-leb}
+use borrow.Author.Tests.{leb-true, eqb-true, le-leb, lt-leb, eq-eqb, ne-eqb}
 use mir.Syntax.{w64}
 use mir.Val.{Fits}
-use Rattle.laws.proofs.Signed.{zp, zn, le-yes}
+use Rattle.laws.proofs.Signed.{le-yes}
 use Rattle.laws.proofs.Bounded.{Within}
 use Rattle.laws.proofs.Tests.{both, range}
 use Rattle.combine_predictions.specs.Refusals.{wrongLength, cause, orElse}
-use Rattle.forming_predictions.specs.Refusals.{outsideDomain, sideFits, planeFits, positionFits, blockSideFits, lastSample, lastBlock, planeRefusal, positionRefusal, sampleRefusal, blockRefusal}
+use Rattle.forming_predictions.specs.Refusals.{outsideDomain, planeFits, positionFits, blockSideFits, lastSample, lastBlock, planeRefusal, positionRefusal, sampleRefusal, blockRefusal}
 
 -- ---- chains
 none-first : (m n : ℕ) → orElse m n ≡ 0 → m ≡ 0
@@ -172,3 +172,17 @@ first-cause (suc m) n h = refl
 pub next-cause : (m n k : ℕ) → m ≡ 0 → n ≡ k → k ≡ orElse m n
 next-cause zero n k e f = sym f
 next-cause (suc m) n k e f = absurd (omega arith)
+
+-- ---- a block: when each number is given
+module _ (w h n : ℕ) (x y : ℤ) (bw bh o : ℕ) where
+  abbrev inDomain : Bool
+  inDomain = planeFits w h n && ((blockSideFits bw && blockSideFits bh) && (positionFits lastBlock x && positionFits lastBlock y))
+
+  pub refused-14 : inDomain ≡ false → blockRefusal w h n x y bw bh o ≡ outsideDomain
+  refused-14 e = sym (block-cause w h n x y bw bh o) ∙ rw e
+
+  pub refused-18 : inDomain ≡ true → (o ≡ bw * bh → ⊥) → blockRefusal w h n x y bw bh o ≡ wrongLength
+  refused-18 e f = sym (block-cause w h n x y bw bh o) ∙ rw (e, ne-eqb o (bw * bh) f)
+
+  pub accepted : inDomain ≡ true → o ≡ bw * bh → blockRefusal w h n x y bw bh o ≡ 0
+  accepted e f = sym (block-cause w h n x y bw bh o) ∙ rw (e, eq-eqb o (bw * bh) f)

@@ -1,10 +1,9 @@
 -- Laws of rows: means of parts of a row, and that a mean of four serves every pattern.
 -- Assumes nothing.
-use mathlib.Core.Path.{_≡_, refl, sym, ap, _∙_}
+use mathlib.Core.Path.{_≡_, refl, sym, _∙_}
 use mathlib.Core.List.{List}
-use Prim.Native.Nat.{ℕ, zero, suc, _+_, _-_, _*_, _≤_, _<_}
+use Prim.Native.Nat.{ℕ, zero, suc, _+_, _-_, _≤_, _/_, _<_}
 use native.Mathlib.Omega.{arith}
-use lib.IntN.{ℤ, pos, _+ℤ_}
 use lib.ListN.{length, getD, take, drop}
 use Rattle.laws.specs.Tabulate.{tabulate}
 use Rattle.laws.proofs.Tabulated.{tab-ext}
@@ -12,6 +11,13 @@ use Rattle.laws.proofs.Parts.{part-length, part-at}
 use Rattle.combine_predictions.specs.Averaging.{mean2, averaged}
 use Rattle.forming_predictions.specs.Means.{mean4}
 use Rattle.forming_predictions.specs.inner.Views.{twoOf, fourOf, RowFits}
+
+-- document 01's form of the mean, and that it is a sample
+pub mean4-is : (a b c d : ℕ) → mean4 a b c d ≡ (a + b + c + d + 2) / 4
+mean4-is a b c d = refl
+
+pub mean4-byte : (a b c d : ℕ) → a < 256 → b < 256 → c < 256 → d < 256 → mean4 a b c d < 256
+mean4-byte a b c d p q r t = omega arith
 
 -- ---- a mean of four whose samples are two, or one
 pub mean4-pair : (a b : ℕ) → mean4 a b a b ≡ mean2 a b

@@ -1,8 +1,8 @@
--- The whole part is the floor of half, and the half flag is oddness.
+-- The whole part is the floor of half, and the half flag is the lowest bit.
 -- Assumes nothing.
-use mathlib.Core.Path.{_≡_, refl, sym, ap, _∙_}
-use mathlib.Core.Bool.{Bool, true, false, not}
-use Prim.Native.Nat.{ℕ, suc, _+_, _-_, _*_, _/_, _%_, _^_, _≤_, _<_}
+use mathlib.Core.Path.{_≡_, refl, ap, _∙_}
+use mathlib.Core.Bool.{true, not}
+use Prim.Native.Nat.{ℕ, suc, _+_, _-_, _*_, _/_, _^_, _≤_}
 use native.Mathlib.Omega.{arith}
 use lib.Bits.{bitAnd, and-mask}
 use lib.Dec.{eqb}
@@ -12,9 +12,7 @@ use mir.Syntax.{w32}
 use mir.Val.{SFits, ofZ}
 use Rattle.laws.proofs.Signed.{zp, zn, eq-z, zn-zero, add-z, sub-z, mul-p, mul-n, half-lo, half-hi, abs-z, le-yes, lt-yes, yes-le, yes-lt}
 use Rattle.laws.proofs.Bounded.{Within, within-half, within-fits, fits-within}
-use Rattle.forming_predictions.specs.Splitting.{floorHalf, halfFlag, patternOf, horizontalHalf, verticalHalf}
-use Rattle.forming_predictions.specs.declared.HalfPattern.{HalfPattern}
-use Rattle.forming_predictions.specs.declared.HalfPattern.the-variants.{Integer, HalfHorizontal, HalfVertical, HalfBoth}
+use Rattle.forming_predictions.specs.Splitting.{floorHalf, halfFlag}
 
 -- q is the floor of half of z: 2q ≤ z < 2q + 2
 pub record IsFloor (z q : ℤ) : Type 0 where
@@ -78,13 +76,6 @@ rest-bit (negsuc n) f = and-mask (2 ^ 32 - suc n) 1 ∙ omega (arith, rest-is (n
 pub flag-is : (z : ℤ) → SFits w32 z → not (eqb (bitAnd (ofZ w32 z) 1) 0) ≡ halfFlag z
 unfolding halfFlag
 flag-is z f = ap (λ (n : ℕ). not (eqb n 0)) (rest-bit z f)
-
--- the flags of a pattern give it back
-pub pattern-of-flags : (p : HalfPattern) → patternOf (horizontalHalf p) (verticalHalf p) ≡ p
-pattern-of-flags Integer = refl
-pattern-of-flags HalfHorizontal = refl
-pattern-of-flags HalfVertical = refl
-pattern-of-flags HalfBoth = refl
 
 -- a vector's whole part is at most half as far from 0
 pub floor-within : {n : ℕ} {z : ℤ} → Within n z → Within ((n + 1) / 2) (floorHalf z)

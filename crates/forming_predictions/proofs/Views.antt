@@ -1,19 +1,19 @@
 -- Laws of views: what lies in a plane, and that the view of a frame or field reads as document 01 says.
 -- Assumes nothing.
-use mathlib.Core.Path.{_≡_, refl, sym, ap, _∙_}
-use mathlib.Core.Bool.{Bool, true, false, _||_, _&&_, cond}
+use mathlib.Core.Path.{_≡_, refl, ap, sym}
+use mathlib.Core.Bool.{_||_, cond}
 use mathlib.Core.List.{List}
-use Prim.Native.Nat.{ℕ, zero, suc, _+_, _-_, _*_, _/_, _≤_, _<_}
-use native.Mathlib.Nat.{zero-mul, mul-zero, mul-comm, mul-le-mul, mul-le-mul-right, mul-le-mul-left, suc-mul}
+use Prim.Native.Nat.{ℕ, zero, suc, _+_, _*_, _≤_, _<_}
+use native.Mathlib.Nat.{zero-mul, mul-zero, mul-comm, mul-le-mul, mul-le-mul-right, suc-mul}
 use native.Mathlib.Omega.{arith}
 use lib.Dec.{eqb}
 use lib.IntN.{ℤ, pos, _+ℤ_}
 use lib.ListN.{length, getD}
-use borrow.Author.Tests.{eq-eqb, ne-eqb}
+use borrow.Author.Tests.{ne-eqb}
 use mir.Syntax.{w32, w64}
 use mir.Val.{SFits, Fits}
-use Rattle.laws.proofs.Signed.{zp, zn, add-z, sfits-hi, sfits-lo, sfits-z}
-use Rattle.forming_predictions.specs.Lines.{Lines, frame, field, parityRow, fieldLines, clampTo, rowOf, sampleAt}
+use Rattle.laws.proofs.Signed.{add-z, sfits-hi, sfits-lo, sfits-z}
+use Rattle.forming_predictions.specs.Lines.{Lines, frame, field, fieldLines, clampTo, rowOf, sampleAt}
 use Rattle.forming_predictions.specs.inner.Views.{lineStart, viewRead, ViewFits, Reach, RowsFit, ReadsAs, rowsSample}
 use Rattle.forming_predictions.specs.declared.FieldParity.the-variants.{Top, Bottom}
 use Rattle.forming_predictions.specs.declared.Rows.{Rows}
@@ -94,30 +94,32 @@ frame-reads h =
       same = λ y. omega (arith, frame-row h y);
     }
 
-pub top-reads : (h : ℕ) → ReadsAs (field Top) h (record { first = 0; step = 2; count = h - h / 2 })
-top-reads h =
+pub top-reads : (h n : ℕ) → n ≡ fieldLines Top h → ReadsAs (field Top) h (record { first = 0; step = 2; count = n })
+top-reads h n e =
+    let lines = top-lines h in
     record {
       fits = record { low = omega arith; apart = omega arith; few = omega arith; some = λ q. omega arith; inside = λ j i. omega arith };
-      same = λ y. top-row h y (fieldLines Top h) refl;
+      same = λ y. row h n y e;
     }
   where
-    top-row : (h : ℕ) (y : ℤ) (n : ℕ) → fieldLines Top h ≡ n → 0 + 2 * clampTo (h - h / 2) y ≡ rowOf (field Top) h y
-    top-row h y zero e = omega (arith, top-lines h, empty-field Top h y e, clamp-is h (pos 0), clamp-is (h - h / 2) y)
-    top-row h y (suc n) e =
-        let t : h - h / 2 ≡ fieldLines Top h = omega (arith, top-lines h) in
-        rw t (omega (arith, field-row Top h y (omega arith)))
+    row : (h n : ℕ) (y : ℤ) → n ≡ fieldLines Top h → 0 + 2 * clampTo n y ≡ rowOf (field Top) h y
+    row h zero y e =
+        omega (arith, top-lines h, empty-field Top h y (sym e), clamp-is h (pos 0), clamp-is 0 y)
+    row h (suc n) y e = rw e (omega (arith, field-row Top h y (omega arith)))
 
 -- a bottom field without lines is one of a plane of at most one row: that row is read
-pub no-bottom-reads : (h : ℕ) → h ≤ 1 → ReadsAs (field Bottom) h (record { first = 0; step = 1; count = h })
-no-bottom-reads h p =
+pub no-bottom-reads : (h : ℕ) → fieldLines Bottom h ≡ 0 → ReadsAs (field Bottom) h (record { first = 0; step = 1; count = h })
+no-bottom-reads h e =
     record {
       fits = frame-reads h .fits;
-      same = λ y. omega (arith, empty-field Bottom h y (omega (arith, bottom-lines h)), clamp-is h (pos 1), clamp-is h y);
+      same = λ y. omega (arith, bottom-lines h, empty-field Bottom h y e, clamp-is h (pos 1), clamp-is h y);
     }
 
-pub bottom-reads : (h : ℕ) → 1 < h → ReadsAs (field Bottom) h (record { first = 1; step = 2; count = h / 2 })
-bottom-reads h p =
+pub bottom-reads : (h n : ℕ) → n ≡ fieldLines Bottom h → (n ≡ 0 → ⊥) → ReadsAs (field Bottom) h (record { first = 1; step = 2; count = n })
+bottom-reads h n e p =
+    let lines = bottom-lines h in
+    let some : 0 < n = omega (arith, p) in
     record {
       fits = record { low = omega arith; apart = omega arith; few = omega arith; some = λ q. omega arith; inside = λ j i. omega arith };
-      same = λ y. rw (← bottom-lines h) (omega (arith, field-row Bottom h y (omega (arith, bottom-lines h))));
+      same = λ y. rw e (omega (arith, field-row Bottom h y (omega arith)));
     }

@@ -5,7 +5,7 @@ use mathlib.Core.List.{List, [], _∷_}
 use Prim.Native.Nat.{ℕ}
 use lib.IntN.{ℤ, pos, negsuc}
 use Rattle.forming_predictions.specs.Splitting.{floorHalf, halfFlag}
-use Rattle.forming_predictions.specs.Lines.{Lines, frame, field, fieldLines, sampleAt}
+use Rattle.forming_predictions.specs.Lines.{frame, field, fieldLines, sampleAt}
 use Rattle.forming_predictions.specs.Means.{mean4, rounded}
 use Rattle.forming_predictions.specs.Forming.{formed}
 use Rattle.forming_predictions.specs.declared.FieldParity.{FieldParity}

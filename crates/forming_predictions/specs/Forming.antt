@@ -24,3 +24,8 @@ formed m read x y horizontal vertical =
 -- a block of w columns and h rows by a rule for each sample, row after row; its first sample is at (x, y)
 unfoldable pub blockOf : ℕ → ℕ → (ℤ → ℤ → ℕ) → ℤ → ℤ → List ℕ
 blockOf w h rule x y = tabulate (w * h) (λ (k : ℕ). rule (x +ℤ pos (k % w)) (y +ℤ pos (k / w)))
+
+-- a block of predicted samples, by the vector (horizontal, vertical)
+abbrev pub predictedBlock : Means → (ℤ → ℤ → ℕ) → ℕ → ℕ → ℤ → ℤ → ℤ → ℤ → List ℕ
+predictedBlock m read w h x y horizontal vertical =
+    blockOf w h (λ (a b : ℤ). formed m read a b horizontal vertical) x y

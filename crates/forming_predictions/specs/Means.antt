@@ -1,5 +1,5 @@
--- The arithmetic that a predicted sample is made with. The standard's rounds every mean; reading and forming are defined over the
--- record, so that another arithmetic, as one that never rounds, has the same readings.
+-- The arithmetic that a predicted sample is made with. The standard's rounds every mean; forming is defined over the record, so that
+-- another arithmetic, as one that never rounds, has the same readings.
 use Prim.Native.Nat.{ℕ, _+_}
 use Rattle.combine_predictions.specs.Rounding.{_//_}
 use Rattle.combine_predictions.specs.Averaging.{mean2}

@@ -14,9 +14,13 @@ outsideDomain = 14
 abbrev pub sideFits : ℕ → Bool
 sideFits side = leb side 16384
 
+-- a plane's samples are as many as its sides say
+abbrev pub countFits : ℕ → ℕ → ℕ → Bool
+countFits w h n = eqb n (w * h)
+
 -- a plane of w columns and h rows, with n samples
 unfoldable pub planeFits : ℕ → ℕ → ℕ → Bool
-planeFits w h n = sideFits w && (sideFits h && eqb n (w * h))
+planeFits w h n = sideFits w && (sideFits h && countFits w h n)
 
 -- a position: -32,768 to `last`
 unfoldable pub positionFits : ℤ → ℤ → Bool

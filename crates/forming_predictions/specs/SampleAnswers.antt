@@ -1,4 +1,5 @@
--- The answer of a call that gives one sample: document 01's number of each case, 0 for acceptance, and its sample.
+-- The answer of a call that gives one sample: the number and the sample of each case, as document 01 has them. Number 0 is acceptance.
+use mathlib.Core.Option.{Option, none, some}
 use Prim.Native.Nat.{ℕ, zero, suc}
 use Rattle.forming_predictions.specs.declared.Sampled.{Sampled}
 use Rattle.forming_predictions.specs.declared.Sampled.the-variants.{Sample, Refused}
@@ -6,6 +7,15 @@ use Rattle.forming_predictions.specs.declared.Sampled.the-variants.{Samp
 abbrev pub sampleNumber : Sampled → ℕ
 sampleNumber (Sample v) = 0
 sampleNumber (Refused n) = n
+
+abbrev pub sampleValue : Sampled → Option ℕ
+sampleValue (Sample v) = some v
+sampleValue (Refused n) = none
+
+-- the sample, unless the number is a refusal's
+abbrev pub valueUnless : ℕ → ℕ → Option ℕ
+valueUnless zero v = some v
+valueUnless (suc n) v = none
 
 -- the answer with this number, and with this sample where the number is 0
 abbrev pub sampleAnswer : ℕ → ℕ → Sampled

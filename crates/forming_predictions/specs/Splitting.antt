@@ -1,7 +1,7 @@
 -- ISO/IEC 13818-2, 7.6.4: a component of a motion vector, which counts half samples, is split into whole samples and a half.
 use mathlib.Core.Path.{_≡_}
 use mathlib.Core.Bool.{Bool, true, false, not}
-use Prim.Native.Nat.{ℕ, _/_}
+use Prim.Native.Nat.{_/_}
 use lib.Dec.{eqb}
 use lib.IntN.{ℤ, pos, negsuc, natAbs, _-ℤ_, _*ℤ_}
 use Rattle.forming_predictions.specs.declared.HalfPattern.{HalfPattern}
@@ -22,21 +22,16 @@ halfFlag vector = not (eqb (natAbs (vector -ℤ floorHalf vector *ℤ pos 2)) 0)
 abbrev pub IsSplit : ℤ → ComponentSplit → Type 0
 IsSplit vector s = (s .«int_vec» ≡ floorHalf vector) × (s .«half_flag» ≡ halfFlag vector)
 
--- the four cases of 7.6.4 by half_flag[0], the horizontal one, and half_flag[1]
-abbrev pub patternOf : Bool → Bool → HalfPattern
-patternOf false false = Integer
-patternOf true false = HalfHorizontal
-patternOf false true = HalfVertical
-patternOf true true = HalfBoth
+-- ---- the four cases of 7.6.4
 
--- half_flag[0] of each case
+-- half_flag[0], the horizontal one, of each case
 abbrev pub horizontalHalf : HalfPattern → Bool
 horizontalHalf Integer = false
 horizontalHalf HalfHorizontal = true
 horizontalHalf HalfVertical = false
 horizontalHalf HalfBoth = true
 
--- half_flag[1] of each case
+-- half_flag[1], the vertical one
 abbrev pub verticalHalf : HalfPattern → Bool
 verticalHalf Integer = false
 verticalHalf HalfHorizontal = false

@@ -8,21 +8,32 @@ ghost use Prim.Native.Nat.{ℕ, _+_, _*_, _/_, _%_, _≤_, _<_};
 ghost use lib.IntN.{ℤ, pos, _+ℤ_};
 ghost use lib.ListN.{length, getD};
 ghost use Rattle.laws.specs.Tabulate.{tabulate};
+ghost use Rattle.laws.proofs.Bounded.{Within};
 ghost use Rattle.combine_predictions.specs.Refusals.{cause, unlessRefused};
 ghost use Rattle.combine_predictions.specs.Averaging.{averaged};
 ghost use Rattle.forming_predictions.specs.declared.FieldParity.the-variants.{Bottom};
-ghost use Rattle.forming_predictions.specs.Splitting.{floorHalf, halfFlag, IsSplit, patternOf, horizontalHalf, verticalHalf};
+ghost use Rattle.forming_predictions.specs.Splitting.{floorHalf, halfFlag, IsSplit, horizontalHalf, verticalHalf};
 ghost use Rattle.forming_predictions.specs.Lines.{frame, field, fieldLines, clampTo, sampleAt};
 ghost use Rattle.forming_predictions.specs.Means.{mean4, rounded};
-ghost use Rattle.forming_predictions.specs.Forming.{formed, blockOf};
-ghost use Rattle.laws.proofs.Bounded.{Within};
+ghost use Rattle.forming_predictions.specs.Forming.{formed, blockOf, predictedBlock};
 ghost use Rattle.forming_predictions.specs.Refusals.{outsideDomain, planeFits, positionFits, blockSideFits, planeRefusal, sampleRefusal, blockRefusal};
-ghost use Rattle.forming_predictions.specs.SampleAnswers.{sampleNumber, sampleAnswer};
+ghost use Rattle.forming_predictions.specs.SampleAnswers.{sampleNumber, sampleValue, valueUnless, sampleAnswer};
 ghost use Rattle.forming_predictions.specs.BlockAnswers.{blockNumber, blockAnswer};
 ghost use Rattle.forming_predictions.specs.inner.Views.{lineStart, viewRead, spread, twoOf, fourOf, lineCell, picked, columnAt, viewBlock, ViewFits, BlockFits, RowFits, Inside, ColumnsFit, FetchFits, RegionFits, insideOf, Reach, RowsFit, ReadsAs, rowsSample, bitOf};
 
 /// Refusal: a plane's length is not width times height, or a side or a position is outside the domain.
 pub const OUTSIDE_DOMAIN: u8 = 14;
+
+/// The largest side of a plane.
+pub const LARGEST_SIDE: usize = 16384;
+/// The largest side of a block.
+pub const LARGEST_BLOCK_SIDE: usize = 16;
+/// The positions that are taken: the first one, the last one of a block, and the last one of a sample, which is 15 further.
+pub const FIRST_POSITION: i32 = -32768;
+
+pub const LAST_BLOCK: i32 = 32767;
+
+pub const LAST_SAMPLE: i32 = 32782;
 
 /// The four cases of half_flag\[0\], the horizontal one, and half_flag\[1\].
 pub enum HalfPattern {
@@ -44,6 +55,7 @@ pub struct ComponentSplit {
     pub half_flag: bool,
 }
 
+/// A vector, split.
 pub struct SplitVector {
     pub horizontal: ComponentSplit,
     pub vertical: ComponentSplit,
@@ -96,8 +108,9 @@ struct Rows {
 // ---- vectors
 
 impl HalfPattern {
+    /// The pattern with these flags.
     pub fn from_flags(half_horiz: bool, half_vert: bool) -> Self
-        ensures { λ r. ⌜ r ≡ patternOf «half_horiz» «half_vert» ⌝ }
+        ensures { λ r. ⌜ (horizontalHalf r ≡ «half_horiz») × (verticalHalf r ≡ «half_vert») ⌝ }
     {
         if half_horiz {
             if half_vert {
@@ -111,6 +124,7 @@ impl HalfPattern {
         HalfPattern::Integer
     }
 
+    /// The pattern's flags.
     pub fn flags(self) -> HalfFlags
         ensures { λ r. ⌜ (r .horizontal ≡ horizontalHalf self) × (r .vertical ≡ verticalHalf self) ⌝ }
     {
@@ -148,8 +162,9 @@ impl HalfPattern {
 }
 
 impl SplitVector {
+    /// The pattern of the two half flags.
     pub fn pattern(self) -> HalfPattern
-        ensures { λ r. ⌜ r ≡ patternOf (self .horizontal .«half_flag») (self .vertical .«half_flag») ⌝ }
+        ensures { λ r. ⌜ (horizontalHalf r ≡ self .horizontal .«half_flag») × (verticalHalf r ≡ self .vertical .«half_flag») ⌝ }
     {
         HalfPattern::from_flags(self.horizontal.half_flag, self.vertical.half_flag)
     }
@@ -162,12 +177,14 @@ fn whole_part(vector: i32) -> i32
     vector >> 1
 }
 
+/// The lowest bit, also of a negative number.
 fn is_half(vector: i32) -> bool
     ensures { λ r. ⌜ r ≡ halfFlag vector ⌝ }
 {
     vector & 1 != 0
 }
 
+/// Whole samples and a half of a component that counts half samples: -3 is -2 and a half.
 pub fn split_component(vector: i32) -> ComponentSplit
     ensures { λ r. ⌜ IsSplit vector r ⌝ }
 {
@@ -177,6 +194,7 @@ pub fn split_component(vector: i32) -> ComponentSplit
     }
 }
 
+/// The same for both components.
 pub fn split_vector(horizontal: i32, vertical: i32) -> SplitVector
     ensures { λ r. ⌜ IsSplit horizontal (r .horizontal) × IsSplit vertical (r .vertical) ⌝ }
 {
@@ -229,11 +247,12 @@ fn frame_rows(height: usize) -> Rows
     }
 }
 
-/// A field without lines reads the plane's only row.
-fn bottom_rows(height: usize) -> Rows
+/// The rows of a bottom field of `count` lines. One without lines reads the plane's only row.
+fn bottom_rows(height: usize, count: usize) -> Rows
+    requires { ⌜ count ≡ fieldLines Bottom height ⌝ }
     ensures { λ r. ⌜ ReadsAs (field Bottom) height r ⌝ }
 {
-    if height <= 1 {
+    if count == 0 {
         return Rows {
             first: 0,
             step: 1,
@@ -243,22 +262,23 @@ fn bottom_rows(height: usize) -> Rows
     Rows {
         first: 1,
         step: 2,
-        count: height / 2,
+        count: count,
     }
 }
 
 fn field_rows(reference: FieldReference) -> Rows
     ensures { λ r. ⌜ ReadsAs (field (reference .parity)) (reference .plane .height) r ⌝ }
 {
-    let h = reference.plane.height;
+    let height = reference.plane.height;
+    let count = reference.height();
     let parity = reference.parity;
     match parity {
         FieldParity::Top => Rows {
             first: 0,
             step: 2,
-            count: h - h / 2,
+            count: count,
         },
-        FieldParity::Bottom => bottom_rows(h),
+        FieldParity::Bottom => bottom_rows(height, count),
     }
 }
 
@@ -278,6 +298,7 @@ fn shifted(position: i32, n: usize) -> i32
     position + n as i32
 }
 
+/// The sample of a view at (x, y), clamped. Views are passed as numbers: a struct would be passed through memory.
 fn sample_at(
     samples: &[u8],
     width: usize,
@@ -301,7 +322,8 @@ fn avg4(a: u8, b: u8, c: u8, d: u8) -> u8
     ((a as u16 + b as u16 + c as u16 + d as u16 + 2) / 4) as u8
 }
 
-/// One predicted sample, with a step of `dx` to the right neighbour and of `dy` to the one below.
+/// One predicted sample, with a step of `dx` to the right neighbour and of `dy` to the one below. Where a step is 0, samples count twice
+/// or four times, which gives the mean of fewer.
 fn form_sample(
     samples: &[u8],
     width: usize,
@@ -340,6 +362,7 @@ fn copy_samples(from: &[u8], out: &mut [u8])
     }
 }
 
+/// Averaging refuses differing lengths only, and these are equal.
 fn mean2_samples(a: &[u8], b: &[u8], out: &mut [u8])
     requires { ⌜ (length (now b) ≡ length (now a)) × (length (now out) ≡ length (now a)) ⌝ }
     ensures { λ r. ⌜ now (out .exit) ≡ averaged (now (a .entry)) (now (b .entry)) ⌝ }
@@ -358,7 +381,7 @@ fn mean4_samples(a: &[u8], b: &[u8], c: &[u8], d: &[u8], out: &mut [u8])
     }
 }
 
-/// Two samples each. A row of 16 goes through a local array: there the loop has a fixed length and writes nothing that it might read,
+/// Two samples each, which are one where `dx` is 0 and the rows are the same. A row of 16 goes through a local array: there the loop has a fixed length and writes nothing that it might read,
 /// and it compiles to a few instructions.
 fn two_row(row: &[u8], below: &[u8], x: usize, dx: usize, out: &mut [u8])
     requires { ⌜ RowFits (now row) (now below) x dx (length (now out)) ⌝ }
@@ -813,19 +836,22 @@ fn moved(position: i32, vector: i32) -> i32
     requires { ⌜ Within 32782 position ⌝ }
     ensures { λ r. ⌜ (r ≡ position +ℤ floorHalf vector) × Reach r ⌝ }
 {
-    position + whole_part(vector)
+    let split = split_component(vector);
+    position + split.int_vec
 }
 
 /// The step to the neighbour that a half asks for.
 fn half_step(vector: i32) -> usize
     ensures { λ r. ⌜ (r ≡ bitOf (halfFlag vector)) × (r ≤ 1) ⌝ }
 {
-    if is_half(vector) {
+    let split = split_component(vector);
+    if split.half_flag {
         return 1;
     }
     0
 }
 
+/// The sample at (x, y). A plane has no samples where one of its sides is 0.
 fn read_rows(rows: Rows, plane: ReferencePlane, samples: &[u8], x: i32, y: i32) -> u8
     requires { ⌜ RowsFit rows (plane .height) × (planeRefusal (plane .width) (plane .height) (length (now samples)) ≡ 0) ⌝ }
     ensures { λ r. ⌜ r ≡ rowsSample rows (plane .width) (plane .height) (now (samples .entry)) x y ⌝ }
@@ -844,6 +870,7 @@ fn read_rows(rows: Rows, plane: ReferencePlane, samples: &[u8], x: i32, y: i32) 
     )
 }
 
+/// The predicted sample at (x, y).
 fn form_rows_sample(
     rows: Rows,
     plane: ReferencePlane,
@@ -872,6 +899,7 @@ fn form_rows_sample(
     )
 }
 
+/// The predicted block at (x, y).
 fn form_rows(
     rows: Rows,
     plane: ReferencePlane,
@@ -884,7 +912,7 @@ fn form_rows(
     out: &mut [u8],
 )
     requires { ⌜ RowsFit rows (plane .height) × (blockRefusal (plane .width) (plane .height) (length (now samples)) x y (size .width) (size .height) (length (now out)) ≡ 0) ⌝ }
-    ensures { λ r. ⌜ now (out .exit) ≡ blockOf (size .width) (size .height) (λ (a b : ℤ). formed rounded (rowsSample rows (plane .width) (plane .height) (now (samples .entry))) a b horizontal vertical) x y ⌝ }
+    ensures { λ r. ⌜ now (out .exit) ≡ predictedBlock rounded (rowsSample rows (plane .width) (plane .height) (now (samples .entry))) (size .width) (size .height) x y horizontal vertical ⌝ }
 {
     if samples.len() == 0 {
         clear(out);
@@ -911,25 +939,26 @@ fn form_rows(
 fn plane_fits(plane: ReferencePlane, length: usize) -> bool
     ensures { λ r. ⌜ r ≡ planeFits (plane .width) (plane .height) length ⌝ }
 {
-    if plane.width > 16384 {
+    if plane.width > LARGEST_SIDE {
         return false;
     }
-    if plane.height > 16384 {
+    if plane.height > LARGEST_SIDE {
         return false;
     }
     length == plane.width * plane.height
 }
 
+/// `&` and not `&&`: both tests are made, and there is one path.
 fn position_fits(last: i32, position: i32) -> bool
     ensures { λ r. ⌜ r ≡ positionFits last position ⌝ }
 {
-    (-32768 <= position) & (position <= last)
+    (FIRST_POSITION <= position) & (position <= last)
 }
 
 fn block_side_fits(side: usize) -> bool
     ensures { λ r. ⌜ r ≡ blockSideFits side ⌝ }
 {
-    (1 <= side) & (side <= 16)
+    (1 <= side) & (side <= LARGEST_BLOCK_SIDE)
 }
 
 /// 14 unless what a call is given fits the domain.
@@ -951,7 +980,9 @@ fn plane_refusal(plane: ReferencePlane, length: usize) -> u8
 fn sample_refusal(plane: ReferencePlane, length: usize, x: i32, y: i32) -> u8
     ensures { λ r. ⌜ r ≡ sampleRefusal (plane .width) (plane .height) length x y ⌝ }
 {
-    domain_refusal(plane_fits(plane, length) & (position_fits(32782, x) & position_fits(32782, y)))
+    domain_refusal(
+        plane_fits(plane, length) & (position_fits(LAST_SAMPLE, x) & position_fits(LAST_SAMPLE, y)),
+    )
 }
 
 fn block_refusal(
@@ -965,7 +996,7 @@ fn block_refusal(
     ensures { λ r. ⌜ r ≡ blockRefusal (plane .width) (plane .height) length x y (size .width) (size .height) room ⌝ }
 {
     let sides = block_side_fits(size.width) & block_side_fits(size.height);
-    let positions = position_fits(32767, x) & position_fits(32767, y);
+    let positions = position_fits(LAST_BLOCK, x) & position_fits(LAST_BLOCK, y);
     let domain = domain_refusal(plane_fits(plane, length) & (sides & positions));
     if domain != 0 {
         return domain;
@@ -980,8 +1011,7 @@ fn block_refusal(
 
 fn sample_rows(rows: Rows, plane: ReferencePlane, samples: &[u8], x: i32, y: i32) -> Sampled
     requires { ⌜ RowsFit rows (plane .height) ⌝ }
-    ensures number { λ r. ⌜ sampleNumber r ≡ planeRefusal (plane .width) (plane .height) (length (now (samples .entry))) ⌝ }
-    ensures answer { λ r. ⌜ r ≡ sampleAnswer (sampleNumber r) (rowsSample rows (plane .width) (plane .height) (now (samples .entry)) x y) ⌝ }
+    ensures answer { λ r. ⌜ r ≡ sampleAnswer (planeRefusal (plane .width) (plane .height) (length (now (samples .entry)))) (rowsSample rows (plane .width) (plane .height) (now (samples .entry)) x y) ⌝ }
 {
     let number = plane_refusal(plane, samples.len());
     if number != 0 {
@@ -1000,8 +1030,7 @@ fn predict_rows_sample(
     vertical: i32,
 ) -> Sampled
     requires { ⌜ RowsFit rows (plane .height) ⌝ }
-    ensures number { λ r. ⌜ sampleNumber r ≡ sampleRefusal (plane .width) (plane .height) (length (now (samples .entry))) x y ⌝ }
-    ensures answer { λ r. ⌜ r ≡ sampleAnswer (sampleNumber r) (formed rounded (rowsSample rows (plane .width) (plane .height) (now (samples .entry))) x y horizontal vertical) ⌝ }
+    ensures answer { λ r. ⌜ r ≡ sampleAnswer (sampleRefusal (plane .width) (plane .height) (length (now (samples .entry))) x y) (formed rounded (rowsSample rows (plane .width) (plane .height) (now (samples .entry))) x y horizontal vertical) ⌝ }
 {
     let number = sample_refusal(plane, samples.len(), x, y);
     if number != 0 {
@@ -1023,7 +1052,7 @@ fn predict_rows_block(
 ) -> Predicted
     requires { ⌜ RowsFit rows (plane .height) ⌝ }
     ensures answer { λ r. ⌜ r ≡ blockAnswer (blockRefusal (plane .width) (plane .height) (length (now (samples .entry))) x y (size .width) (size .height) (length (now (out .entry)))) ⌝ }
-    ensures buffer { λ r. ⌜ now (out .exit) ≡ unlessRefused (blockNumber r) (blockOf (size .width) (size .height) (λ (a b : ℤ). formed rounded (rowsSample rows (plane .width) (plane .height) (now (samples .entry))) a b horizontal vertical) x y) (now (out .entry)) ⌝ }
+    ensures buffer { λ r. ⌜ now (out .exit) ≡ unlessRefused (blockNumber r) (predictedBlock rounded (rowsSample rows (plane .width) (plane .height) (now (samples .entry))) (size .width) (size .height) x y horizontal vertical) (now (out .entry)) ⌝ }
 {
     let number = block_refusal(plane, samples.len(), x, y, size, out.len());
     if number != 0 {
@@ -1039,8 +1068,9 @@ impl ReferencePlane {
     /// The sample at (x, y), which is clamped to the plane: any position is taken. It refuses a plane that is outside the domain or whose
     /// samples are not width times height.
     pub fn sample(self, samples: &[u8], x: i32, y: i32) -> Sampled
+        ensures answer { λ r. ⌜ r ≡ sampleAnswer (planeRefusal (self .width) (self .height) (length (now (samples .entry)))) (sampleAt frame (self .width) (self .height) (now (samples .entry)) x y) ⌝ }
         ensures number { λ r. ⌜ sampleNumber r ≡ planeRefusal (self .width) (self .height) (length (now (samples .entry))) ⌝ }
-        ensures answer { λ r. ⌜ r ≡ sampleAnswer (sampleNumber r) (sampleAt frame (self .width) (self .height) (now (samples .entry)) x y) ⌝ }
+        ensures value { λ r. ⌜ sampleValue r ≡ valueUnless (sampleNumber r) (sampleAt frame (self .width) (self .height) (now (samples .entry)) x y) ⌝ }
     {
         sample_rows(frame_rows(self.height), self, samples, x, y)
     }
@@ -1049,8 +1079,9 @@ impl ReferencePlane {
 impl FieldReference {
     /// The sample of the field at (x, y): y is clamped to the field's lines, x to the plane.
     pub fn sample(self, samples: &[u8], x: i32, y: i32) -> Sampled
+        ensures answer { λ r. ⌜ r ≡ sampleAnswer (planeRefusal (self .plane .width) (self .plane .height) (length (now (samples .entry)))) (sampleAt (field (self .parity)) (self .plane .width) (self .plane .height) (now (samples .entry)) x y) ⌝ }
         ensures number { λ r. ⌜ sampleNumber r ≡ planeRefusal (self .plane .width) (self .plane .height) (length (now (samples .entry))) ⌝ }
-        ensures answer { λ r. ⌜ r ≡ sampleAnswer (sampleNumber r) (sampleAt (field (self .parity)) (self .plane .width) (self .plane .height) (now (samples .entry)) x y) ⌝ }
+        ensures value { λ r. ⌜ sampleValue r ≡ valueUnless (sampleNumber r) (sampleAt (field (self .parity)) (self .plane .width) (self .plane .height) (now (samples .entry)) x y) ⌝ }
     {
         sample_rows(field_rows(self), self.plane, samples, x, y)
     }
@@ -1066,8 +1097,9 @@ pub fn predict_sample(
     horizontal: i32,
     vertical: i32,
 ) -> Sampled
+    ensures answer { λ r. ⌜ r ≡ sampleAnswer (sampleRefusal (reference .width) (reference .height) (length (now (samples .entry))) x y) (formed rounded (sampleAt frame (reference .width) (reference .height) (now (samples .entry))) x y horizontal vertical) ⌝ }
     ensures number { λ r. ⌜ sampleNumber r ≡ sampleRefusal (reference .width) (reference .height) (length (now (samples .entry))) x y ⌝ }
-    ensures answer { λ r. ⌜ r ≡ sampleAnswer (sampleNumber r) (formed rounded (sampleAt frame (reference .width) (reference .height) (now (samples .entry))) x y horizontal vertical) ⌝ }
+    ensures value { λ r. ⌜ sampleValue r ≡ valueUnless (sampleNumber r) (formed rounded (sampleAt frame (reference .width) (reference .height) (now (samples .entry))) x y horizontal vertical) ⌝ }
 {
     predict_rows_sample(
         frame_rows(reference.height),
@@ -1089,8 +1121,9 @@ pub fn predict_field_sample(
     horizontal: i32,
     vertical: i32,
 ) -> Sampled
+    ensures answer { λ r. ⌜ r ≡ sampleAnswer (sampleRefusal (reference .plane .width) (reference .plane .height) (length (now (samples .entry))) x y) (formed rounded (sampleAt (field (reference .parity)) (reference .plane .width) (reference .plane .height) (now (samples .entry))) x y horizontal vertical) ⌝ }
     ensures number { λ r. ⌜ sampleNumber r ≡ sampleRefusal (reference .plane .width) (reference .plane .height) (length (now (samples .entry))) x y ⌝ }
-    ensures answer { λ r. ⌜ r ≡ sampleAnswer (sampleNumber r) (formed rounded (sampleAt (field (reference .parity)) (reference .plane .width) (reference .plane .height) (now (samples .entry))) x y horizontal vertical) ⌝ }
+    ensures value { λ r. ⌜ sampleValue r ≡ valueUnless (sampleNumber r) (formed rounded (sampleAt (field (reference .parity)) (reference .plane .width) (reference .plane .height) (now (samples .entry))) x y horizontal vertical) ⌝ }
 {
     predict_rows_sample(
         field_rows(reference),
@@ -1117,7 +1150,7 @@ pub fn predict_block(
     out: &mut [u8],
 ) -> Predicted
     ensures answer { λ r. ⌜ r ≡ blockAnswer (blockRefusal (reference .width) (reference .height) (length (now (samples .entry))) «top_left_x» «top_left_y» (size .width) (size .height) (length (now (out .entry)))) ⌝ }
-    ensures buffer { λ r. ⌜ now (out .exit) ≡ unlessRefused (blockNumber r) (blockOf (size .width) (size .height) (λ (x y : ℤ). formed rounded (sampleAt frame (reference .width) (reference .height) (now (samples .entry))) x y horizontal vertical) «top_left_x» «top_left_y») (now (out .entry)) ⌝ }
+    ensures buffer { λ r. ⌜ now (out .exit) ≡ unlessRefused (blockNumber r) (predictedBlock rounded (sampleAt frame (reference .width) (reference .height) (now (samples .entry))) (size .width) (size .height) «top_left_x» «top_left_y» horizontal vertical) (now (out .entry)) ⌝ }
 {
     predict_rows_block(
         frame_rows(reference.height),
@@ -1144,7 +1177,7 @@ pub fn predict_field_block(
     out: &mut [u8],
 ) -> Predicted
     ensures answer { λ r. ⌜ r ≡ blockAnswer (blockRefusal (reference .plane .width) (reference .plane .height) (length (now (samples .entry))) «top_left_x» «top_left_y» (size .width) (size .height) (length (now (out .entry)))) ⌝ }
-    ensures buffer { λ r. ⌜ now (out .exit) ≡ unlessRefused (blockNumber r) (blockOf (size .width) (size .height) (λ (x y : ℤ). formed rounded (sampleAt (field (reference .parity)) (reference .plane .width) (reference .plane .height) (now (samples .entry))) x y horizontal vertical) «top_left_x» «top_left_y») (now (out .entry)) ⌝ }
+    ensures buffer { λ r. ⌜ now (out .exit) ≡ unlessRefused (blockNumber r) (predictedBlock rounded (sampleAt (field (reference .parity)) (reference .plane .width) (reference .plane .height) (now (samples .entry))) (size .width) (size .height) «top_left_x» «top_left_y» horizontal vertical) (now (out .entry)) ⌝ }
 {
     predict_rows_block(
         field_rows(reference),

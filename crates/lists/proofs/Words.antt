@@ -6,10 +6,8 @@ use mathlib.Core.List.{List}
 use Prim.Native.Nat.{ℕ, _-_, _≤_, _<_}
 use native.Mathlib.Omega.{arith}
 use lib.Dec.{leb}
-use lib.ListN.{length, getD, take, drop, length-drop, drop-of-length-le}
-use lib.Seq.{length-take-le, take-all}
+use lib.ListN.{length, getD, take, drop, drop-of-length-le}
 use borrow.Author.Tests.{lt-ltb, le-ltb, eq-eqb, ne-eqb, leb-true, leb-false}
-use Rattle.laws.proofs.Parts.{part-length, part-rest}
 use Rattle.lists.specs.declared.Class.the-variants.{Line}
 use Rattle.lists.specs.declared.Next.the-variants.{Case, Comment, End}
 use Rattle.lists.specs.Text.{runEnd, place, wordStart, wordEnd, wordAt, nextStart, nextAt}

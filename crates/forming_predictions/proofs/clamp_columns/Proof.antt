@@ -1,12 +1,12 @@
 -- `clamp_columns` meets its contract: after k turns the first k columns are in place.
 -- Assumes nothing.
 use Rattle.forming_predictions.specs.Lines.{clampTo}
-use Prim.Native.Nat.{ℕ, _-_}
+use Prim.Native.Nat.{_-_}
 use native.Mathlib.Omega.{arith}
 use borrow.Author.Needs.{needs}
-use lib.ListN.{length, getD}
+use lib.ListN.{length}
 use Rattle.laws.proofs.Filled.{Filled, filled-none, filled-length, filled-step, filled-all}
-use mathlib.Core.Path.{_≡_, refl, ap, _∙_}
+use mathlib.Core.Path.{refl, ap, _∙_}
 use mir.Syntax.{w32}
 use mir.Val.{toZ}
 use mir.Facts.{toZ-ofZ}

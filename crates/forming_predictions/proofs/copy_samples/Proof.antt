@@ -5,7 +5,7 @@ use native.Mathlib.Omega.{arith}
 use borrow.Author.Needs.{needs}
 use lib.ListN.{length, getD}
 use Rattle.laws.proofs.Filled.{Filled, filled-none, filled-length, filled-step, filled-all}
-use mathlib.Core.Path.{_≡_, refl, _∙_}
+use mathlib.Core.Path.{refl, _∙_}
 use Rattle.laws.proofs.Tabulated.{tab-self}
 use Rattle.forming_predictions.proofs.copy_samples.Statement.{statement}
 use Rattle.forming_predictions.proofs.copy_samples.Tie as tie

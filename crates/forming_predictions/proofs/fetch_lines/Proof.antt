@@ -1,14 +1,14 @@
 -- `fetch_lines` meets its contract: after r turns the first r rows are in place.
 -- Assumes nothing.
-use mathlib.Core.Path.{_≡_, ap, _∙_}
-use Prim.Native.Nat.{ℕ, _+_, _-_, _*_, _/_, _%_, _≤_, _<_}
+use mathlib.Core.Path.{_≡_, _∙_}
+use Prim.Native.Nat.{ℕ, _+_, _-_, _*_, _/_, _%_, _≤_}
 use native.Mathlib.Nat.{zero-mul}
 use native.Mathlib.Omega.{arith}
 use lib.Arith.{digits-div, digits-mod}
-use lib.IntN.{ℤ, pos, _+ℤ_}
+use lib.IntN.{pos, _+ℤ_}
 use lib.ListN.{length, take, drop}
 use mir.Syntax.{w32}
-use mir.Val.{toZ, ofZ}
+use mir.Val.{toZ}
 use mir.Facts.{toZ-ofZ}
 use Rattle.laws.proofs.Bits.{back}
 use Rattle.laws.proofs.Filled.{Filled, filled-none, filled-length, filled-part, filled-all}

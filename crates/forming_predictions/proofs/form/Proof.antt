@@ -1,10 +1,9 @@
 -- `form` meets its contract: inside, nothing is clamped.
 -- Assumes nothing.
-use mathlib.Core.Path.{_≡_, sym, ap, _∙_}
+use mathlib.Core.Path.{_≡_, sym, _∙_}
 use mathlib.Core.Bool.{true}
 use Prim.Native.Nat.{_+_, _≤_}
 use native.Mathlib.Omega.{arith}
-use lib.IntN.{ℤ}
 use mir.Facts.{toZ-ofZ}
 use Rattle.laws.proofs.Signed.{zp, zn}
 use Rattle.laws.proofs.Tests.{both}

@@ -1,10 +1,8 @@
 -- `form_clamped` meets its contract, with means and without.
 -- Assumes nothing.
-use mathlib.Core.Path.{_≡_, refl, sym, ap, _∙_}
-use Prim.Native.Nat.{ℕ}
+use mathlib.Core.Path.{_≡_, refl}
 use native.Mathlib.Omega.{arith}
 use mir.Facts.{toZ-ofZ}
-use Rattle.forming_predictions.specs.inner.Views.{viewBlock}
 use Rattle.forming_predictions.proofs.Blocks.{plain-fits}
 use borrow.Author.Needs.{needs}
 use Rattle.forming_predictions.proofs.form_clamped.Statement.{statement}

@@ -1,7 +1,7 @@
 -- `form_inside` meets its contract: after r turns the first r rows are in place.
 -- Assumes nothing.
-use mathlib.Core.Path.{_≡_, refl, ap, _∙_}
-use Prim.Native.Nat.{ℕ, _+_, _-_, _*_, _/_, _%_, _≤_, _<_}
+use mathlib.Core.Path.{_≡_, _∙_}
+use Prim.Native.Nat.{ℕ, _+_, _-_, _*_, _/_, _%_, _≤_}
 use native.Mathlib.Nat.{zero-mul}
 use native.Mathlib.Omega.{arith}
 use lib.IntN.{ℤ, pos, _+ℤ_}
@@ -9,7 +9,7 @@ use lib.ListN.{length, take, drop}
 use Rattle.laws.proofs.Filled.{Filled, filled-none, filled-length, filled-part, filled-all}
 use Rattle.laws.proofs.Parts.{part-length}
 use Rattle.forming_predictions.specs.Forming.{blockOf}
-use Rattle.forming_predictions.specs.inner.Views.{viewRead, spread, lineCell, Inside}
+use Rattle.forming_predictions.specs.inner.Views.{viewRead, spread, lineCell}
 use Rattle.forming_predictions.proofs.Blocks.{row-in, next-row, all-rows, row-of-block}
 use Rattle.forming_predictions.proofs.form_inside.Statement.{statement}
 use Rattle.forming_predictions.proofs.form_inside.Tie as tie

@@ -1,6 +1,6 @@
 -- `form_line` meets its contract: the two rows lie in the samples, and nothing is clamped.
 -- Assumes nothing.
-use mathlib.Core.Path.{_≡_, _∙_}
+use mathlib.Core.Path.{_∙_}
 use Prim.Native.Nat.{_+_, _≤_}
 use lib.ListN.{length}
 use native.Mathlib.Omega.{arith}

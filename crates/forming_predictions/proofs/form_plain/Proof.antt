@@ -1,8 +1,7 @@
 -- `form_plain` meets its contract: a mean of four times the same sample is that sample.
 -- Assumes nothing.
-use mathlib.Core.Path.{_≡_, ap, _∙_}
+use mathlib.Core.Path.{_∙_}
 use native.Mathlib.Omega.{arith}
-use lib.IntN.{ℤ}
 use mir.Facts.{toZ-ofZ}
 use Rattle.forming_predictions.specs.inner.Views.{viewRead}
 use Rattle.forming_predictions.proofs.Blocks.{plain-block, front, front-fetch}

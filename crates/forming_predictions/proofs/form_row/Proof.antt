@@ -1,6 +1,6 @@
 -- `form_row` meets its contract: two samples give the mean of four where one of the steps is 0.
 -- Assumes nothing.
-use mathlib.Core.Path.{_≡_, _∙_}
+use mathlib.Core.Path.{_∙_}
 use Rattle.laws.proofs.Tabulated.{tab-ext}
 use Rattle.forming_predictions.proofs.RowMeans.{two-is-four}
 use borrow.Author.Needs.{needs}

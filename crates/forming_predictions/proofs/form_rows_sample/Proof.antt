@@ -1,7 +1,6 @@
 -- `form_rows_sample` meets its contract: an empty plane gives 0, and another one is a view.
 -- Assumes nothing.
-use mathlib.Core.Path.{_≡_, sym, ap, _∙_}
-use Prim.Native.Nat.{_*_, _<_}
+use mathlib.Core.Path.{_≡_, sym, _∙_}
 use native.Mathlib.Omega.{arith}
 use lib.ListN.{length}
 use mir.Facts.{toZ-ofZ}

@@ -1,6 +1,6 @@
 -- `four_row` meets its contract.
 -- Assumes nothing.
-use mathlib.Core.Path.{_≡_, _∙_}
+use mathlib.Core.Path.{_∙_}
 use Rattle.forming_predictions.proofs.RowMeans.{four-parts}
 use borrow.Author.Needs.{needs}
 use Rattle.forming_predictions.proofs.four_row.Statement.{statement}

@@ -7,18 +7,18 @@ use borrow.Author.Needs.{needs}
 use Rattle.forming_predictions.proofs.half_step.Statement.{statement}
 use Rattle.forming_predictions.proofs.half_step.Tie as tie
 
-is-half-requires : tie.Need-is-half-requires
-is-half-requires c κs = search needs
+split-component-requires : tie.Need-split-component-requires
+split-component-requires c κs = search needs
 
 returns : tie.Need-returns
 returns c =
     let h = c .before in
-    rw (sym (rw (toZ-ofZ (h .before .fits .vector)) at (h .is-half .ensures)) ∙ c .if1 .taken) (refl, omega arith)
+    rw (sym (rw (toZ-ofZ (h .before .fits .vector)) at (h .split-component .ensures .1)) ∙ c .if1 .taken) (refl, omega arith)
 
 returns-2 : tie.Need-returns-2
 returns-2 c =
     let h = c .before in
-    rw (sym (rw (toZ-ofZ (h .before .fits .vector)) at (h .is-half .ensures)) ∙ c .if1 .left) (refl, omega arith)
+    rw (sym (rw (toZ-ofZ (h .before .fits .vector)) at (h .split-component .ensures .1)) ∙ c .if1 .left) (refl, omega arith)
 
 pub half-step-spec : {M : Type 1} → statement M
-half-step-spec = tie.close (tie.spec is-half-requires returns returns-2)
+half-step-spec = tie.close (tie.spec split-component-requires returns returns-2)

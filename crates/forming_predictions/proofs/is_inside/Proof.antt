@@ -1,6 +1,6 @@
 -- `is_inside` meets its contract: a negative position is outside.
 -- Assumes nothing.
-use mathlib.Core.Path.{_≡_, sym}
+use mathlib.Core.Path.{sym}
 use native.Mathlib.Omega.{arith}
 use mir.Syntax.{w32}
 use Rattle.laws.proofs.Signed.{sfits-hi}

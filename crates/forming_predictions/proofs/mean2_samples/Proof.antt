@@ -1,6 +1,6 @@
 -- `mean2_samples` meets its contract: averaging refuses nothing of equal lengths.
 -- Assumes nothing.
-use mathlib.Core.Path.{_≡_, sym, _∙_}
+use mathlib.Core.Path.{sym}
 use lib.ListN.{length}
 use Rattle.combine_predictions.proofs.Averaging.{accepted}
 use borrow.Author.Needs.{needs}

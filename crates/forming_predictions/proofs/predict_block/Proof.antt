@@ -1,6 +1,6 @@
 -- `predict_block` meets its contract: the plane's rows are the frame's lines.
 -- Assumes nothing.
-use mathlib.Core.Path.{_≡_, ap, _∙_}
+use mathlib.Core.Path.{ap, _∙_}
 use mathlib.Core.List.{List}
 use Prim.Native.Nat.{ℕ}
 use mir.Facts.{toZ-ofZ}

@@ -1,6 +1,6 @@
 -- `predict_rows_block` meets its contract: what is not refused is written.
 -- Assumes nothing.
-use mathlib.Core.Path.{_≡_, refl, sym, ap, _∙_}
+use mathlib.Core.Path.{sym, ap, _∙_}
 use mir.Facts.{toZ-ofZ}
 use Rattle.forming_predictions.specs.BlockAnswers.{blockAnswer}
 use Rattle.forming_predictions.proofs.BlockAnswers.{refused-block, refused-buffer}

@@ -1,6 +1,6 @@
 -- `sample_refusal` meets its contract: the tests of one number are one.
 -- Assumes nothing.
-use mathlib.Core.Path.{_≡_, _∙_}
+use mathlib.Core.Path.{_∙_}
 use mir.Facts.{toZ-ofZ}
 use Rattle.forming_predictions.proofs.Refusals.{sample-cause}
 use borrow.Author.Needs.{needs}

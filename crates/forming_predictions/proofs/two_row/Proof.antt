@@ -1,6 +1,6 @@
 -- `two_row` meets its contract, through the local array and without it.
 -- Assumes nothing.
-use mathlib.Core.Path.{_≡_, _∙_}
+use mathlib.Core.Path.{_∙_}
 use Rattle.forming_predictions.proofs.RowMeans.{two-parts}
 use borrow.Author.Needs.{needs}
 use Rattle.forming_predictions.proofs.two_row.Statement.{statement}

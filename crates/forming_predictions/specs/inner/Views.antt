@@ -11,8 +11,8 @@ use mir.Syntax.{w32}
 use mir.Val.{SFits}
 use Rattle.combine_predictions.specs.Averaging.{mean2}
 use Rattle.forming_predictions.specs.Lines.{Lines, clampTo, rowOf}
-use Rattle.forming_predictions.specs.Means.{mean4, rounded}
-use Rattle.forming_predictions.specs.Forming.{formed, blockOf}
+use Rattle.forming_predictions.specs.Means.{mean4}
+use Rattle.forming_predictions.specs.Forming.{blockOf}
 use Rattle.forming_predictions.specs.declared.Rows.{Rows}
 
 -- the place of line j's first sample, in rows of w samples

@@ -1,7 +1,7 @@
 -- `walk` ends: the turns that are left fall.
 -- Assumes nothing.
 use lib.ListN.{length}
-use mathlib.Core.Path.{_≡_, refl, _∙_}
+use mathlib.Core.Path.{_≡_}
 use borrow.Author.Needs.{needs}
 use Rattle.replay_forming_predictions.proofs.walk.Statement.{statement}
 use Rattle.replay_forming_predictions.proofs.walk.Tie as tie
