@@ -5,15 +5,28 @@ use forming_predictions::FieldParity;
 use forming_predictions::FieldReference;
 use forming_predictions::Predicted;
 use forming_predictions::ReferencePlane;
+ghost use mathlib.Core.Path.{_≡_};
+ghost use lib.ListN.{length};
+ghost use Rattle.combine_predictions.specs.Refusals.{unlessRefused};
+ghost use Rattle.forming_predictions.specs.Lines.{sampleAt};
+ghost use Rattle.forming_predictions.specs.Means.{rounded};
+ghost use Rattle.forming_predictions.specs.Forming.{predictedBlock};
+ghost use Rattle.forming_predictions.specs.Refusals.{blockRefusal};
+ghost use Rattle.forming_predictions.specs.BlockAnswers.{blockNumber};
+ghost use Rattle.bench_blocks.specs.Sources.{parityOf, linesOf};
 
-fn number_of(answer: Predicted) -> u32 {
+fn number_of(answer: Predicted) -> u32
+    ensures { λ r. ⌜ r ≡ blockNumber answer ⌝ }
+{
     match answer {
         Predicted::Done => 0,
         Predicted::Refused(n) => n as u32,
     }
 }
 
-fn parity_of(from: u32) -> FieldParity {
+fn parity_of(from: u32) -> FieldParity
+    ensures { λ r. ⌜ r ≡ parityOf from ⌝ }
+{
     if from == 0 {
         return FieldParity::Top;
     }
@@ -34,7 +47,10 @@ pub extern "C" fn fozdrik_bench_block(
     horizontal: i32,
     vertical: i32,
     out: &mut [u8],
-) -> u32 {
+) -> u32
+    ensures number { λ r. ⌜ r ≡ blockRefusal width height (length (now (samples .entry))) x y «block_width» «block_height» (length (now (out .entry))) ⌝ }
+    ensures buffer { λ r. ⌜ now (out .exit) ≡ unlessRefused r (predictedBlock rounded (sampleAt (linesOf from) width height (now (samples .entry))) «block_width» «block_height» x y horizontal vertical) (now (out .entry)) ⌝ }
+{
     let plane = ReferencePlane {
         width: width,
         height: height,
