@@ -12,8 +12,8 @@ abbrev pub sampleValue : Sampled → Option ℕ
 sampleValue (Sample v) = some v
 sampleValue (Refused n) = none
 
--- the sample, unless the number is a refusal's
-abbrev pub valueUnless : ℕ → ℕ → Option ℕ
+-- the value of an answer, unless the number is a refusal's
+abbrev pub valueUnless : {A : Type 0} → ℕ → A → Option A
 valueUnless zero v = some v
 valueUnless (suc n) v = none
 

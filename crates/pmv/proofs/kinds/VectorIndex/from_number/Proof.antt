@@ -1,0 +1,19 @@
+use Rattle.pmv.proofs.kinds.VectorIndex.from_number.Statement.{statement}
+use Rattle.pmv.proofs.kinds.VectorIndex.from_number.Tie as tie
+use Rattle.pmv.proofs.kinds.VectorIndex.from_number.Reads as reads
+use Rattle.pmv.proofs.kinds.VectorIndex.from_number.Lts as lts
+
+-- src/kinds.rt:162:13
+returns : tie.Need-returns
+returns c = ?
+
+-- src/kinds.rt:165:13
+returns-2 : tie.Need-returns-2
+returns-2 c = ?
+
+-- src/kinds.rt:158:5
+returns-3 : tie.Need-returns-3
+returns-3 c = ?
+
+pub from-number-spec : {M : Type 1} → statement M
+from-number-spec = tie.close (tie.spec returns returns-2 returns-3)

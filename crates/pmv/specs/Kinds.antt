@@ -1,0 +1,171 @@
+-- The kinds that cross to C and to lists as numbers: document 01 counts them from 0 in the order of the Rust's enums, and any other number
+-- has no meaning. `XNumber` is the number of a kind, `XFrom` the kind of a number, if there is one; proofs/Kinds.antt shows that each
+-- undoes the other.
+use mathlib.Core.Bool.{Bool, true, false, cond}
+use Prim.Native.Nat.{ℕ}
+use lib.Dec.{eqb}
+use Rattle.forming_predictions.specs.declared.FieldParity.{FieldParity}
+use Rattle.forming_predictions.specs.declared.FieldParity.the-variants.{Top, Bottom}
+use Rattle.pmv.specs.declared.kinds.Component.{Component}
+use Rattle.pmv.specs.declared.kinds.Component.the-variants as Component
+use Rattle.pmv.specs.declared.kinds.Direction.{Direction}
+use Rattle.pmv.specs.declared.kinds.Direction.the-variants as Direction
+use Rattle.pmv.specs.declared.kinds.OptionDirection.{OptionDirection}
+use Rattle.pmv.specs.declared.kinds.OptionDirection.the-variants as OptionDirection
+use Rattle.pmv.specs.declared.kinds.VectorIndex.{VectorIndex}
+use Rattle.pmv.specs.declared.kinds.VectorIndex.the-variants as VectorIndex
+use Rattle.pmv.specs.declared.kinds.OptionVectorIndex.{OptionVectorIndex}
+use Rattle.pmv.specs.declared.kinds.OptionVectorIndex.the-variants as OptionVectorIndex
+use Rattle.pmv.specs.declared.kinds.MvFormat.{MvFormat}
+use Rattle.pmv.specs.declared.kinds.MvFormat.the-variants as MvFormat
+use Rattle.pmv.specs.declared.kinds.OptionMvFormat.{OptionMvFormat}
+use Rattle.pmv.specs.declared.kinds.OptionMvFormat.the-variants as OptionMvFormat
+use Rattle.pmv.specs.declared.kinds.PictureStructure.{PictureStructure}
+use Rattle.pmv.specs.declared.kinds.PictureStructure.the-variants as PictureStructure
+use Rattle.pmv.specs.declared.kinds.OptionPictureStructure.{OptionPictureStructure}
+use Rattle.pmv.specs.declared.kinds.OptionPictureStructure.the-variants as OptionPictureStructure
+use Rattle.pmv.specs.declared.kinds.PredictionType.{PredictionType}
+use Rattle.pmv.specs.declared.kinds.PredictionType.the-variants as PredictionType
+use Rattle.pmv.specs.declared.kinds.OptionPredictionType.{OptionPredictionType}
+use Rattle.pmv.specs.declared.kinds.OptionPredictionType.the-variants as OptionPredictionType
+use Rattle.pmv.specs.declared.kinds.PictureCodingType.{PictureCodingType}
+use Rattle.pmv.specs.declared.kinds.PictureCodingType.the-variants as PictureCodingType
+use Rattle.pmv.specs.declared.kinds.ChromaFormat.{ChromaFormat}
+use Rattle.pmv.specs.declared.kinds.ChromaFormat.the-variants as ChromaFormat
+use Rattle.pmv.specs.declared.kinds.OptionChromaFormat.{OptionChromaFormat}
+use Rattle.pmv.specs.declared.kinds.OptionChromaFormat.the-variants as OptionChromaFormat
+use Rattle.pmv.specs.declared.kinds.OptionFieldParity.{OptionFieldParity}
+use Rattle.pmv.specs.declared.kinds.OptionFieldParity.the-variants as OptionFieldParity
+use Rattle.pmv.specs.declared.kinds.OptionFlag.{OptionFlag}
+use Rattle.pmv.specs.declared.kinds.OptionFlag.the-variants as OptionFlag
+
+-- t of Table 7-7
+abbrev pub componentNumber : Component → ℕ
+componentNumber Component.Horizontal = 0
+componentNumber Component.Vertical = 1
+
+-- s of Table 7-7
+abbrev pub directionNumber : Direction → ℕ
+directionNumber Direction.Forward = 0
+directionNumber Direction.Backward = 1
+
+abbrev pub directionFrom : ℕ → OptionDirection
+directionFrom n =
+    cond (eqb n 0) (OptionDirection.Some Direction.Forward)
+    (cond (eqb n 1) (OptionDirection.Some Direction.Backward)
+    OptionDirection.None)
+
+-- r of Table 7-7
+abbrev pub indexNumber : VectorIndex → ℕ
+indexNumber VectorIndex.First = 0
+indexNumber VectorIndex.Second = 1
+
+abbrev pub indexFrom : ℕ → OptionVectorIndex
+indexFrom n =
+    cond (eqb n 0) (OptionVectorIndex.Some VectorIndex.First)
+    (cond (eqb n 1) (OptionVectorIndex.Some VectorIndex.Second)
+    OptionVectorIndex.None)
+
+-- mv_format
+abbrev pub formatNumber : MvFormat → ℕ
+formatNumber MvFormat.Field = 0
+formatNumber MvFormat.Frame = 1
+
+abbrev pub formatFrom : ℕ → OptionMvFormat
+formatFrom n =
+    cond (eqb n 0) (OptionMvFormat.Some MvFormat.Field)
+    (cond (eqb n 1) (OptionMvFormat.Some MvFormat.Frame)
+    OptionMvFormat.None)
+
+-- picture_structure, whose codes in the stream are other numbers
+abbrev pub structureNumber : PictureStructure → ℕ
+structureNumber PictureStructure.TopField = 0
+structureNumber PictureStructure.BottomField = 1
+structureNumber PictureStructure.Frame = 2
+
+abbrev pub structureFrom : ℕ → OptionPictureStructure
+structureFrom n =
+    cond (eqb n 0) (OptionPictureStructure.Some PictureStructure.TopField)
+    (cond (eqb n 1) (OptionPictureStructure.Some PictureStructure.BottomField)
+    (cond (eqb n 2) (OptionPictureStructure.Some PictureStructure.Frame)
+    OptionPictureStructure.None))
+
+-- frame_motion_type or field_motion_type, whose codes in the stream are other numbers
+abbrev pub typeNumber : PredictionType → ℕ
+typeNumber PredictionType.FieldBased = 0
+typeNumber PredictionType.FrameBased = 1
+typeNumber PredictionType.SixteenByEight = 2
+typeNumber PredictionType.DualPrime = 3
+
+abbrev pub typeFrom : ℕ → OptionPredictionType
+typeFrom n =
+    cond (eqb n 0) (OptionPredictionType.Some PredictionType.FieldBased)
+    (cond (eqb n 1) (OptionPredictionType.Some PredictionType.FrameBased)
+    (cond (eqb n 2) (OptionPredictionType.Some PredictionType.SixteenByEight)
+    (cond (eqb n 3) (OptionPredictionType.Some PredictionType.DualPrime)
+    OptionPredictionType.None)))
+
+-- picture_coding_type, whose codes in the stream are other numbers
+abbrev pub codingNumber : PictureCodingType → ℕ
+codingNumber PictureCodingType.Intra = 0
+codingNumber PictureCodingType.Predictive = 1
+codingNumber PictureCodingType.Bidirectional = 2
+codingNumber PictureCodingType.DcIntra = 3
+
+-- chroma_format, whose codes in the stream are other numbers
+abbrev pub chromaNumber : ChromaFormat → ℕ
+chromaNumber ChromaFormat.Yuv420 = 0
+chromaNumber ChromaFormat.Yuv422 = 1
+chromaNumber ChromaFormat.Yuv444 = 2
+
+abbrev pub chromaFrom : ℕ → OptionChromaFormat
+chromaFrom n =
+    cond (eqb n 0) (OptionChromaFormat.Some ChromaFormat.Yuv420)
+    (cond (eqb n 1) (OptionChromaFormat.Some ChromaFormat.Yuv422)
+    (cond (eqb n 2) (OptionChromaFormat.Some ChromaFormat.Yuv444)
+    OptionChromaFormat.None))
+
+-- the parity of a field
+abbrev pub parityNumber : FieldParity → ℕ
+parityNumber Top = 0
+parityNumber Bottom = 1
+
+abbrev pub parityFrom : ℕ → OptionFieldParity
+parityFrom n =
+    cond (eqb n 0) (OptionFieldParity.Some Top)
+    (cond (eqb n 1) (OptionFieldParity.Some Bottom)
+    OptionFieldParity.None)
+
+-- yes or no
+abbrev pub flagNumber : Bool → ℕ
+flagNumber false = 0
+flagNumber true = 1
+
+abbrev pub flagFrom : ℕ → OptionFlag
+flagFrom n =
+    cond (eqb n 0) (OptionFlag.Some false)
+    (cond (eqb n 1) (OptionFlag.Some true)
+    OptionFlag.None)
+
+-- ---- tests
+
+abbrev pub isVertical : Component → Bool
+isVertical Component.Horizontal = false
+isVertical Component.Vertical = true
+
+abbrev pub isFieldFormat : MvFormat → Bool
+isFieldFormat MvFormat.Field = true
+isFieldFormat MvFormat.Frame = false
+
+-- a frame picture, not a field picture
+abbrev pub isFramePicture : PictureStructure → Bool
+isFramePicture PictureStructure.TopField = false
+isFramePicture PictureStructure.BottomField = false
+isFramePicture PictureStructure.Frame = true
+
+-- a P or B picture
+abbrev pub isInterPicture : PictureCodingType → Bool
+isInterPicture PictureCodingType.Intra = false
+isInterPicture PictureCodingType.Predictive = true
+isInterPicture PictureCodingType.Bidirectional = true
+isInterPicture PictureCodingType.DcIntra = false

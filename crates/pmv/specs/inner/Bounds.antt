@@ -1,0 +1,8 @@
+-- The numbers of a range are small, so that no sum with them overflows.
+use Rattle.laws.proofs.Bounded.{Within}
+use Rattle.pmv.specs.declared.component.VectorRange.{VectorRange}
+
+pub record Small (b : VectorRange) : Type 0 where
+  pub low : Within 4096 (b .low)
+  pub high : Within 4096 (b .high)
+  pub range : Within 8192 (b .range)

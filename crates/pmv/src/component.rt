@@ -1,0 +1,330 @@
+//! ISO/IEC 13818-2, 7.6.3.1: one component of a motion vector, in half samples.
+use crate::kinds::Component;
+use crate::kinds::MvFormat;
+use crate::kinds::PictureStructure;
+ghost use mathlib.Core.Path.{_≡_};
+ghost use mathlib.Core.Bool.{Bool};
+ghost use Prim.Native.Nat.{ℕ, _+_, _*_, _≤_, _<_};
+ghost use lib.IntN.{ℤ, pos, natAbs, _+ℤ_, _-ℤ_};
+ghost use Rattle.laws.proofs.Bounded.{Within};
+ghost use Rattle.forming_predictions.specs.SampleAnswers.{valueUnless};
+ghost use Rattle.pmv.specs.Delta.{scale, isPlain, magnitude, withSign, delta, residualIn, residualValue, fCodeFits, codeFits, residualRefusal, fCodeRefusal, deltaRefusal};
+ghost use Rattle.pmv.specs.Component.{rangeOf, inRange, halves, prediction, raised, lowered, wrapped, vectorOf, newPredictor, moved, movedRefusal, deltaOf, componentOf, componentRefusal};
+ghost use Rattle.pmv.specs.Answers.{deltaAnswer, deltaNumber, deltaValue, rangeAnswer, rangeNumber, rangeValue, componentAnswer, reconstructedNumber, reconstructedValue};
+ghost use Rattle.pmv.specs.inner.Bounds.{Small};
+
+/// Refusal: f_code outside 1..9.
+pub const F_CODE_OUTSIDE: u8 = 1;
+/// Refusal: motion_code outside -16..16.
+pub const CODE_OUTSIDE: u8 = 2;
+/// Refusal: a motion_residual where the syntax has none.
+pub const RESIDUAL_FORBIDDEN: u8 = 3;
+/// Refusal: no motion_residual where the syntax has one.
+pub const RESIDUAL_MISSING: u8 = 4;
+/// Refusal: delta outside low..high.
+pub const DELTA_OUTSIDE: u8 = 5;
+/// Refusal: the vector is outside low..high after one wrap.
+pub const VECTOR_OUTSIDE: u8 = 6;
+
+/// `motion_residual`, where it is there.
+pub enum MotionResidual {
+    Absent,
+    Present(u8),
+}
+
+/// A delta, or the number of the refusal.
+pub enum ComputedDelta {
+    Delta(i32),
+    Refused(u8),
+}
+
+/// The ends of the range of vectors, and how many numbers it has.
+pub struct VectorRange {
+    pub low: i32,
+    pub high: i32,
+    pub range: i32,
+}
+
+/// A range, or the number of the refusal.
+pub enum FoundRange {
+    Range(VectorRange),
+    Refused(u8),
+}
+
+/// A component of a vector, the predictor to be stored, and what they were made of.
+pub struct ReconstructedComponent {
+    pub vector_prime: i32,
+    pub new_pmv: i32,
+    pub delta: i32,
+    pub range: i32,
+}
+
+/// A component, or the number of the refusal.
+pub enum Reconstructed {
+    Component(ReconstructedComponent),
+    Refused(u8),
+}
+
+// ---- delta
+
+/// f, which is 2 to the power f_code - 1.
+fn scale_of(f_code: u8) -> u32
+    requires { ⌜ fCodeRefusal «f_code» ≡ 0 ⌝ }
+    ensures { λ r. ⌜ (r ≡ scale «f_code») × (1 ≤ r) × (r ≤ 256) ⌝ }
+{
+    1 << (f_code - 1)
+}
+
+fn f_code_fits(f_code: u8) -> bool
+    ensures { λ r. ⌜ r ≡ fCodeFits «f_code» ⌝ }
+{
+    (1 <= f_code) & (f_code <= 9)
+}
+
+fn code_fits(motion_code: i32) -> bool
+    ensures { λ r. ⌜ r ≡ codeFits «motion_code» ⌝ }
+{
+    (-16 <= motion_code) & (motion_code <= 16)
+}
+
+/// Whether delta is the code, and there is no residual.
+fn is_plain(f: u32, motion_code: i32) -> bool
+    ensures { λ r. ⌜ r ≡ isPlain f «motion_code» ⌝ }
+{
+    (f == 1) | (motion_code == 0)
+}
+
+fn residual_refusal(plain: bool, motion_residual: MotionResidual) -> u8
+    ensures { λ r. ⌜ r ≡ residualRefusal plain «motion_residual» ⌝ }
+{
+    match motion_residual {
+        MotionResidual::Absent => {
+            if plain {
+                return 0;
+            }
+            RESIDUAL_MISSING
+        }
+        MotionResidual::Present(_) => {
+            if plain {
+                return RESIDUAL_FORBIDDEN;
+            }
+            0
+        }
+    }
+}
+
+fn delta_refusal(motion_code: i32, motion_residual: MotionResidual, f_code: u8) -> u8
+    ensures { λ r. ⌜ r ≡ deltaRefusal «f_code» «motion_code» «motion_residual» ⌝ }
+{
+    if !f_code_fits(f_code) {
+        return F_CODE_OUTSIDE;
+    }
+    if !code_fits(motion_code) {
+        return CODE_OUTSIDE;
+    }
+    residual_refusal(is_plain(scale_of(f_code), motion_code), motion_residual)
+}
+
+/// Abs(motion_code).
+fn absolute(motion_code: i32) -> u32
+    requires { ⌜ Within 16 «motion_code» ⌝ }
+    ensures { λ r. ⌜ r ≡ natAbs «motion_code» ⌝ }
+{
+    if motion_code < 0 {
+        return (0 - motion_code) as u32;
+    }
+    motion_code as u32
+}
+
+fn with_sign(motion_code: i32, m: u32) -> i32
+    requires { ⌜ m ≤ 4352 ⌝ }
+    ensures { λ r. ⌜ r ≡ withSign «motion_code» m ⌝ }
+{
+    let d = m as i32;
+    if motion_code < 0 {
+        return 0 - d;
+    }
+    d
+}
+
+fn residual_value(motion_residual: MotionResidual) -> u32
+    ensures { λ r. ⌜ (r ≡ residualValue «motion_residual») × (r ≤ 255) ⌝ }
+{
+    match motion_residual {
+        MotionResidual::Absent => 0,
+        MotionResidual::Present(n) => n as u32,
+    }
+}
+
+/// delta, where nothing is refused.
+fn delta_of(motion_code: i32, residual: u32, f: u32) -> i32
+    requires { ⌜ Within 16 «motion_code» × (residual ≤ 255) × (1 ≤ f) × (f ≤ 256) ⌝ }
+    ensures { λ r. ⌜ r ≡ delta f «motion_code» residual ⌝ }
+{
+    if is_plain(f, motion_code) {
+        return motion_code;
+    }
+    with_sign(motion_code, (absolute(motion_code) - 1) * f + residual + 1)
+}
+
+/// How far a component is from its prediction, in half samples.
+pub fn compute_delta(motion_code: i32, motion_residual: MotionResidual, f_code: u8) -> ComputedDelta
+    ensures answer { λ r. ⌜ r ≡ deltaAnswer (deltaRefusal «f_code» «motion_code» «motion_residual») (deltaOf «f_code» «motion_code» «motion_residual») ⌝ }
+    ensures number { λ r. ⌜ deltaNumber r ≡ deltaRefusal «f_code» «motion_code» «motion_residual» ⌝ }
+    ensures value { λ r. ⌜ deltaValue r ≡ valueUnless (deltaNumber r) (deltaOf «f_code» «motion_code» «motion_residual») ⌝ }
+{
+    let number = delta_refusal(motion_code, motion_residual, f_code);
+    if number != 0 {
+        return ComputedDelta::Refused(number);
+    }
+    ComputedDelta::Delta(delta_of(
+        motion_code,
+        residual_value(motion_residual),
+        scale_of(f_code),
+    ))
+}
+
+// ---- range
+
+/// low, high and range for f.
+fn range_of(f: u32) -> VectorRange
+    requires { ⌜ f ≤ 256 ⌝ }
+    ensures { λ r. ⌜ (r ≡ rangeOf f) × Small r ⌝ }
+{
+    let n = f as i32;
+    VectorRange {
+        low: 0 - 16 * n,
+        high: 16 * n - 1,
+        range: 32 * n,
+    }
+}
+
+/// The range of vectors that an f_code gives.
+pub fn vector_range(f_code: u8) -> FoundRange
+    ensures answer { λ r. ⌜ r ≡ rangeAnswer (fCodeRefusal «f_code») (rangeOf (scale «f_code»)) ⌝ }
+    ensures number { λ r. ⌜ rangeNumber r ≡ fCodeRefusal «f_code» ⌝ }
+    ensures value { λ r. ⌜ rangeValue r ≡ valueUnless (rangeNumber r) (rangeOf (scale «f_code»)) ⌝ }
+{
+    if !f_code_fits(f_code) {
+        return FoundRange::Refused(F_CODE_OUTSIDE);
+    }
+    FoundRange::Range(range_of(scale_of(f_code)))
+}
+
+fn in_range(b: VectorRange, v: i64) -> bool
+    ensures { λ r. ⌜ r ≡ inRange b v ⌝ }
+{
+    ((b.low as i64) <= v) & (v <= b.high as i64)
+}
+
+// ---- a component
+
+/// Whether the predictor counts frame lines and the vector field lines.
+fn halves_prediction(mv_format: MvFormat, picture: PictureStructure, t: Component) -> bool
+    ensures { λ r. ⌜ r ≡ halves «mv_format» picture t ⌝ }
+{
+    mv_format.is_field() & (t.is_vertical() & picture.is_frame())
+}
+
+/// The prior predictor, or its half, floored: a shift, since division would truncate.
+fn predicted(prior_pmv: i32, halved: bool) -> i32
+    ensures { λ r. ⌜ r ≡ prediction halved «prior_pmv» ⌝ }
+{
+    if halved {
+        return prior_pmv >> 1;
+    }
+    prior_pmv
+}
+
+/// In 64 bits: a prior may be any i32.
+fn summed(prediction: i32, delta: i32) -> i64
+    ensures { λ r. ⌜ (r ≡ prediction +ℤ delta) × Within 4294967296 r ⌝ }
+{
+    prediction as i64 + delta as i64
+}
+
+fn raise(b: VectorRange, v: i64) -> i64
+    requires { ⌜ Small b × Within 4294967296 v ⌝ }
+    ensures { λ r. ⌜ (r ≡ raised b v) × Within 4294975488 r ⌝ }
+{
+    if v < b.low as i64 {
+        return v + b.range as i64;
+    }
+    v
+}
+
+fn lower(b: VectorRange, v: i64) -> i64
+    requires { ⌜ Small b × Within 4294975488 v ⌝ }
+    ensures { λ r. ⌜ r ≡ lowered b v ⌝ }
+{
+    if (b.high as i64) < v {
+        return v - b.range as i64;
+    }
+    v
+}
+
+/// The vector before its last test.
+fn wrap(b: VectorRange, prior_pmv: i32, halved: bool, delta: i32) -> i64
+    requires { ⌜ Small b ⌝ }
+    ensures { λ r. ⌜ r ≡ vectorOf b halved «prior_pmv» delta ⌝ }
+{
+    lower(b, raise(b, summed(predicted(prior_pmv, halved), delta)))
+}
+
+/// The predictor to be stored counts frame lines again.
+fn next_predictor(vector: i32, halved: bool) -> i32
+    requires { ⌜ Within 4096 vector ⌝ }
+    ensures { λ r. ⌜ r ≡ newPredictor halved vector ⌝ }
+{
+    if halved {
+        return vector * 2;
+    }
+    vector
+}
+
+/// A component from its delta.
+fn moved_by(b: VectorRange, halved: bool, prior_pmv: i32, delta: i32) -> Reconstructed
+    requires { ⌜ Small b ⌝ }
+    ensures { λ r. ⌜ r ≡ componentAnswer (movedRefusal b halved «prior_pmv» delta) (moved b halved «prior_pmv» delta) ⌝ }
+{
+    if !in_range(b, delta as i64) {
+        return Reconstructed::Refused(DELTA_OUTSIDE);
+    }
+    let v = wrap(b, prior_pmv, halved, delta);
+    if !in_range(b, v) {
+        return Reconstructed::Refused(VECTOR_OUTSIDE);
+    }
+    let vector = v as i32;
+    Reconstructed::Component(ReconstructedComponent {
+        vector_prime: vector,
+        new_pmv: next_predictor(vector, halved),
+        delta: delta,
+        range: b.range,
+    })
+}
+
+/// A component of a vector from what the stream has of it and the predictor PMV\[r\]\[s\]\[t\]. Nothing is stored.
+pub fn reconstruct_component(
+    motion_code: i32,
+    motion_residual: MotionResidual,
+    f_code: u8,
+    prior_pmv: i32,
+    mv_format: MvFormat,
+    picture: PictureStructure,
+    t: Component,
+) -> Reconstructed
+    ensures answer { λ r. ⌜ r ≡ componentAnswer (componentRefusal «f_code» «motion_code» «motion_residual» «prior_pmv» (halves «mv_format» picture t)) (componentOf «f_code» «motion_code» «motion_residual» «prior_pmv» (halves «mv_format» picture t)) ⌝ }
+    ensures number { λ r. ⌜ reconstructedNumber r ≡ componentRefusal «f_code» «motion_code» «motion_residual» «prior_pmv» (halves «mv_format» picture t) ⌝ }
+    ensures value { λ r. ⌜ reconstructedValue r ≡ valueUnless (reconstructedNumber r) (componentOf «f_code» «motion_code» «motion_residual» «prior_pmv» (halves «mv_format» picture t)) ⌝ }
+{
+    let halved = halves_prediction(mv_format, picture, t);
+    match compute_delta(motion_code, motion_residual, f_code) {
+        ComputedDelta::Refused(number) => Reconstructed::Refused(number),
+        ComputedDelta::Delta(delta) => moved_by(
+            range_of(scale_of(f_code)),
+            halved,
+            prior_pmv,
+            delta,
+        ),
+    }
+}

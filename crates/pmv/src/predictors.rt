@@ -1,0 +1,61 @@
+//! ISO/IEC 13818-2, Table 7-7 and 7.6.3.4: the predictors PMV\[r\]\[s\]\[t\].
+use crate::kinds::Component;
+use crate::kinds::Direction;
+use crate::kinds::VectorIndex;
+ghost use mathlib.Core.Path.{_≡_};
+ghost use Prim.Native.Nat.{ℕ, _<_};
+ghost use Rattle.pmv.specs.Predictors.{place, predictor, stored, zeroed, firstCopied};
+
+/// The eight predictors in half samples: PMV\[r\]\[s\]\[t\] is at 4r + 2s + t.
+pub struct Pmv {
+    pub values: [i32; 8],
+}
+
+fn place_of(r: VectorIndex, s: Direction, t: Component) -> usize
+    ensures { λ k. ⌜ (k ≡ place r s t) × (k < 8) ⌝ }
+{
+    r.index() * 4 + s.index() * 2 + t.index()
+}
+
+impl Pmv {
+    /// Eight zeros, as at the start of a slice.
+    pub fn new() -> Self
+        ensures { λ p. ⌜ p ≡ zeroed ⌝ }
+    {
+        Pmv { values: [0; 8] }
+    }
+
+    /// The predictors after a reset: eight zeros.
+    pub fn cleared(self) -> Self
+        ensures { λ p. ⌜ p ≡ zeroed ⌝ }
+    {
+        Pmv::new()
+    }
+
+    /// PMV\[r\]\[s\]\[t\].
+    pub fn get(self, r: VectorIndex, s: Direction, t: Component) -> i32
+        ensures { λ v. ⌜ v ≡ predictor self r s t ⌝ }
+    {
+        let k = place_of(r, s, t);
+        self.values[k]
+    }
+
+    /// The predictors with `value` at PMV\[r\]\[s\]\[t\].
+    pub fn with(mut self, r: VectorIndex, s: Direction, t: Component, value: i32) -> Self
+        ensures { λ p. ⌜ p ≡ stored self r s t value ⌝ }
+    {
+        let k = place_of(r, s, t);
+        self.values[k] = value;
+        self
+    }
+
+    /// The predictors with the first vector's of a direction copied to the second's.
+    pub fn with_first_copied(self, s: Direction) -> Self
+        ensures { λ p. ⌜ p ≡ firstCopied s self ⌝ }
+    {
+        let h = self.get(VectorIndex::First, s, Component::Horizontal);
+        let v = self.get(VectorIndex::First, s, Component::Vertical);
+        let p = self.with(VectorIndex::Second, s, Component::Horizontal, h);
+        p.with(VectorIndex::Second, s, Component::Vertical, v)
+    }
+}
