@@ -17,16 +17,16 @@ use Rattle.laws.proofs.Tests.{both, range}
 use Rattle.combine_predictions.specs.Refusals.{wrongLength, cause, orElse}
 use Rattle.forming_predictions.specs.Refusals.{outsideDomain, planeFits, positionFits, blockSideFits, lastSample, lastBlock, planeRefusal, positionRefusal, sampleRefusal, blockRefusal}
 
--- ---- chains
-none-first : (m n : ℕ) → orElse m n ≡ 0 → m ≡ 0
+-- ---- chains: what it says that nothing is refused
+pub none-first : (m n : ℕ) → orElse m n ≡ 0 → m ≡ 0
 none-first zero n e = refl
 none-first (suc m) n e = absurd (omega arith)
 
-none-second : (m n : ℕ) → orElse m n ≡ 0 → n ≡ 0
+pub none-second : (m n : ℕ) → orElse m n ≡ 0 → n ≡ 0
 none-second zero n e = e
 none-second (suc m) n e = absurd (omega arith)
 
-no-cause : (b : Bool) (n : ℕ) → 0 < n → cause (not b) n ≡ 0 → b ≡ true
+pub no-cause : (b : Bool) (n : ℕ) → 0 < n → cause (not b) n ≡ 0 → b ≡ true
 no-cause true n p e = refl
 no-cause false n p e = absurd (omega arith)
 

@@ -1,5 +1,5 @@
 -- The kinds that cross to C and to lists as numbers: document 01 counts them from 0 in the order of the Rust's enums, and any other number
--- has no meaning. `XNumber` is the number of a kind, `XFrom` the kind of a number, if there is one; proofs/Kinds.antt shows that each
+-- has no meaning. `XNumber` is the number of a kind, `XFrom` the kind of a number, if there is one; proofs/Numbers.antt shows that each
 -- undoes the other.
 use mathlib.Core.Bool.{Bool, true, false, cond}
 use Prim.Native.Nat.{ℕ}

@@ -3,6 +3,7 @@
 use mathlib.Core.Bool.{Bool, false}
 use Prim.Native.Nat.{ℕ}
 use lib.IntN.{ℤ}
+use Rattle.combine_predictions.specs.Refusals.{orElse}
 use Rattle.pmv.specs.Component.{halves, componentOf, componentRefusal}
 use Rattle.pmv.specs.Predictors.{predictor, stored}
 use Rattle.pmv.specs.Answers.{componentAnswer}
@@ -19,6 +20,7 @@ use Rattle.pmv.specs.declared.component.Reconstructed.the-variants as C
 use Rattle.pmv.specs.declared.predictors.Pmv.{Pmv}
 use Rattle.pmv.specs.declared.vector.MotionVector.{MotionVector}
 use Rattle.pmv.specs.declared.vector.DecodedComponent.{DecodedComponent}
+use Rattle.pmv.specs.declared.vector.VectorComponents.{VectorComponents}
 use Rattle.pmv.specs.declared.vector.ReconstructedVector.{ReconstructedVector}
 use Rattle.pmv.specs.declared.vector.ReconstructedVector.the-variants as Vec
 use Rattle.pmv.specs.declared.vector.DecodedVector.{DecodedVector}
@@ -66,3 +68,24 @@ module _ (reading : Reading) (mv : MotionVector) (r : VectorIndex) (s : Directio
 
   unfoldable pub reconstructed : Pmv → DecodedVector
   reconstructed pmv = afterHorizontal (horizontalPart pmv .answer) (horizontalPart pmv .pmv)
+
+-- ---- the same, said of the answer: both parts read predictors that nothing has changed
+module _ (mv : MotionVector) (r : VectorIndex) (s : Direction) (fh fv : ℕ) (format : MvFormat) (picture : PictureStructure) (pmv : Pmv) where
+  abbrev pub horizontalRefusal : ℕ
+  horizontalRefusal =
+      componentRefusal fh (mv .«motion_code_horiz») (mv .«motion_residual_horiz») (predictor pmv r s Horizontal) (halves format picture Horizontal)
+
+  abbrev pub verticalRefusal : ℕ
+  verticalRefusal =
+      componentRefusal fv (mv .«motion_code_vert») (mv .«motion_residual_vert») (predictor pmv r s Vertical) (halves format picture Vertical)
+
+  -- 1 to 6 of the horizontal component, then of the vertical one
+  abbrev pub vectorRefusal : ℕ
+  vectorRefusal = orElse horizontalRefusal verticalRefusal
+
+  abbrev pub vectorOf : VectorComponents
+  vectorOf =
+      record {
+        horizontal = componentOf fh (mv .«motion_code_horiz») (mv .«motion_residual_horiz») (predictor pmv r s Horizontal) (halves format picture Horizontal);
+        vertical = componentOf fv (mv .«motion_code_vert») (mv .«motion_residual_vert») (predictor pmv r s Vertical) (halves format picture Vertical);
+      }

@@ -137,7 +137,7 @@ fn absolute(motion_code: i32) -> u32
 }
 
 fn with_sign(motion_code: i32, m: u32) -> i32
-    requires { ⌜ m ≤ 4352 ⌝ }
+    requires { ⌜ m ≤ 4096 ⌝ }
     ensures { λ r. ⌜ r ≡ withSign «motion_code» m ⌝ }
 {
     let d = m as i32;
@@ -191,11 +191,11 @@ fn range_of(f: u32) -> VectorRange
     requires { ⌜ f ≤ 256 ⌝ }
     ensures { λ r. ⌜ (r ≡ rangeOf f) × Small r ⌝ }
 {
-    let n = f as i32;
+    let n = (16 * f) as i32;
     VectorRange {
-        low: 0 - 16 * n,
-        high: 16 * n - 1,
-        range: 32 * n,
+        low: 0 - n,
+        high: n - 1,
+        range: (32 * f) as i32,
     }
 }
 

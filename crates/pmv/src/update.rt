@@ -12,7 +12,8 @@ ghost use Rattle.combine_predictions.specs.Refusals.{cause};
 ghost use Rattle.pmv.specs.Kinds.{typeNumber, flagNumber};
 ghost use Rattle.pmv.specs.Refusals.{intraWithMotion};
 ghost use Rattle.pmv.specs.Update.{intraOutcome, updateRefusal, updateOutcome, outcomeNumber, after, updated, spatialTemporalReset};
-ghost use Rattle.pmv.specs.Answers.{updateAnswer};
+ghost use Rattle.forming_predictions.specs.SampleAnswers.{valueUnless};
+ghost use Rattle.pmv.specs.Answers.{updateAnswer, updateNumber, updateValue};
 ghost use Rattle.pmv.specs.inner.Rows.{rowAnswer, tableAnswer};
 
 /// Refusal: an intra macroblock with a motion flag.
@@ -226,13 +227,20 @@ fn row_answer(row: Row) -> Updated
     }
 }
 
+/// The place of the table for these keys.
+fn row_at(frame: bool, t: PredictionType, forward: bool, backward: bool, intra: bool) -> Row
+    ensures { λ r. ⌜ rowAnswer r ≡ tableAnswer frame t forward backward intra ⌝ }
+{
+    let kind = bit(frame) * 32 + type_place(t) * 8;
+    let flags = bit(forward) * 4 + bit(backward) * 2 + bit(intra);
+    OUTCOMES[kind + flags]
+}
+
 /// What the table says, which leaves concealment out.
 fn look_up(frame: bool, t: PredictionType, forward: bool, backward: bool, intra: bool) -> Updated
     ensures { λ r. ⌜ r ≡ tableAnswer frame t forward backward intra ⌝ }
 {
-    let kind = bit(frame) * 32 + type_place(t) * 8;
-    let flags = bit(forward) * 4 + bit(backward) * 2 + bit(intra);
-    row_answer(OUTCOMES[kind + flags])
+    row_answer(row_at(frame, t, forward, backward, intra))
 }
 
 /// An intra macroblock: all types have the same rows.
@@ -284,10 +292,11 @@ fn carried_out(pmv: Pmv, outcome: PmvUpdateOutcome) -> Pmv
 
 /// The predictors after a macroblock, and which row of Tables 7-10 and 7-11 it was. A refusal changes no predictor.
 pub fn updated_predictors(pmv: Pmv, ctx: PmvUpdateContext) -> PredictorUpdate
-    ensures { λ r. ⌜ r ≡ updated pmv ctx ⌝ }
+    ensures update { λ r. ⌜ r ≡ updated pmv ctx ⌝ }
+    ensures number { λ r. ⌜ updateNumber (r .answer) ≡ updateRefusal ctx ⌝ }
+    ensures value { λ r. ⌜ updateValue (r .answer) ≡ valueUnless (updateNumber (r .answer)) (updateOutcome ctx) ⌝ }
 {
-    let answer = decide(ctx);
-    match answer {
+    match decide(ctx) {
         Updated::Refused(number) => PredictorUpdate {
             answer: Updated::Refused(number),
             pmv: pmv,

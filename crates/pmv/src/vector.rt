@@ -11,8 +11,11 @@ use crate::kinds::VectorIndex;
 use crate::predictors::Pmv;
 ghost use mathlib.Core.Path.{_≡_};
 ghost use mathlib.Core.Bool.{false};
-ghost use Rattle.pmv.specs.Component.{halves};
-ghost use Rattle.pmv.specs.Vector.{ported, decoded, joined, reconstructed};
+ghost use Rattle.forming_predictions.specs.SampleAnswers.{valueUnless};
+ghost use Rattle.pmv.specs.Component.{halves, componentOf, componentRefusal};
+ghost use Rattle.pmv.specs.Predictors.{predictor};
+ghost use Rattle.pmv.specs.Vector.{ported, decoded, joined, reconstructed, vectorRefusal, vectorOf};
+ghost use Rattle.pmv.specs.Answers.{reconstructedNumber, reconstructedValue, vectorNumber, vectorValue};
 ghost use Rattle.pmv.specs.declared.kinds.Component.the-variants.{Vertical};
 
 /// What the stream has of a vector: a motion_code and a motion_residual for each component.
@@ -95,7 +98,9 @@ pub fn decoded_motion_vector(
     motion_residual: MotionResidual,
     f_code: u8,
 ) -> DecodedComponent
-    ensures { λ d. ⌜ d ≡ decoded ported pmv r s t «motion_code» «motion_residual» «f_code» false ⌝ }
+    ensures decoding { λ d. ⌜ d ≡ decoded ported pmv r s t «motion_code» «motion_residual» «f_code» false ⌝ }
+    ensures number { λ d. ⌜ reconstructedNumber (d .answer) ≡ componentRefusal «f_code» «motion_code» «motion_residual» (predictor pmv r s t) false ⌝ }
+    ensures value { λ d. ⌜ reconstructedValue (d .answer) ≡ valueUnless (reconstructedNumber (d .answer)) (componentOf «f_code» «motion_code» «motion_residual» (predictor pmv r s t) false) ⌝ }
 {
     decode(
         pmv,
@@ -163,7 +168,9 @@ pub fn reconstructed_motion_vector(
     mv_format: MvFormat,
     picture: PictureStructure,
 ) -> DecodedVector
-    ensures { λ d. ⌜ d ≡ reconstructed ported mv r s «f_code_horiz» «f_code_vert» «mv_format» picture pmv ⌝ }
+    ensures reconstruction { λ d. ⌜ d ≡ reconstructed ported mv r s «f_code_horiz» «f_code_vert» «mv_format» picture pmv ⌝ }
+    ensures number { λ d. ⌜ vectorNumber (d .answer) ≡ vectorRefusal mv r s «f_code_horiz» «f_code_vert» «mv_format» picture pmv ⌝ }
+    ensures value { λ d. ⌜ vectorValue (d .answer) ≡ valueUnless (vectorNumber (d .answer)) (vectorOf mv r s «f_code_horiz» «f_code_vert» «mv_format» picture pmv) ⌝ }
 {
     let residual = mv.motion_residual_horiz;
     let horizontal = decode(

@@ -1,27 +1,48 @@
+-- `lower` meets its contract.
+-- Assumes nothing.
+use mathlib.Core.Path.{_≡_, refl}
+use mathlib.Core.Bool.{true, false}
+use native.Mathlib.Omega.{arith}
+use lib.IntN.{_-ℤ_}
+use lib.Signed.{ltZ}
+use mir.Syntax.{w32, w64}
+use mir.Val.{SFits}
+use mir.Facts.{toZ-ofZ, sfits-widen}
+use Rattle.laws.proofs.Bits.{widened}
+use Rattle.laws.proofs.Bounded.{within-sub, within-fits}
+use Rattle.pmv.proofs.Ranges.{high-fits, range-fits}
 use Rattle.pmv.proofs.component.lower.Statement.{statement}
 use Rattle.pmv.proofs.component.lower.Tie as tie
-use Rattle.pmv.proofs.component.lower.Reads as reads
-use Rattle.pmv.proofs.component.lower.Lts as lts
 
--- src/component.rt:260:9
+difference : (c : tie.Start) → SFits w64 (c .args .v -ℤ c .args .b .range)
+difference c = within-fits (within-sub (c .pre .1) (c .pre .0 .range)) (omega arith)
+
 cast-if1 : tie.Need-cast-if1
-cast-if1 c = ?
+cast-if1 c =
+    let f = high-fits (c .before .before .pre .0) in
+    rw (toZ-ofZ f) (sfits-widen tt f)
 
--- src/component.rt:261:20
 cast-result : tie.Need-cast-result
-cast-result c = ?
+cast-result c =
+    let f = range-fits (c .before .before .before .before .before .pre .0) in
+    rw (toZ-ofZ f) (sfits-widen tt f)
 
--- src/component.rt:261:16
 sub-result : tie.Need-sub-result
-sub-result c = ?
+sub-result c =
+    let s = c .before .before .before .before .before in
+    rw (toZ-ofZ (s .fits .v), widened (s .args .b .range) (range-fits (s .pre .0))) (difference s)
 
--- src/component.rt:261:9
 returns : tie.Need-returns
-returns c = ?
+returns c =
+    let s = c .before .before .before .before .before in
+    let t = rw (toZ-ofZ (s .fits .v), widened (s .args .b .high) (high-fits (s .pre .0))) at (c .before .before .if1 .taken) in
+    rw (toZ-ofZ (s .fits .v), widened (s .args .b .range) (range-fits (s .pre .0)), toZ-ofZ (difference s), t)
 
--- src/component.rt:256:1
 returns-2 : tie.Need-returns-2
-returns-2 c = ?
+returns-2 c =
+    let s = c .before .before .before in
+    let t = rw (toZ-ofZ (s .fits .v), widened (s .args .b .high) (high-fits (s .pre .0))) at (c .if1 .left) in
+    rw (toZ-ofZ (s .fits .v), t)
 
 pub lower-spec : {M : Type 1} → statement M
 lower-spec = tie.close (tie.spec cast-if1 cast-result sub-result returns returns-2)

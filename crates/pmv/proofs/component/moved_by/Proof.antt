@@ -1,47 +1,97 @@
+-- `moved_by` meets its contract.
+-- Assumes nothing.
+use mathlib.Core.Path.{_≡_, refl, sym, ap, _∙_}
+use mathlib.Core.Bool.{true, false}
+use native.Mathlib.Omega.{arith}
+use lib.IntN.{ℤ}
+use mir.Syntax.{w32, w64}
+use mir.Val.{toZ, ofZ}
+use mir.Facts.{toZ-ofZ, sfits-widen}
+use Rattle.laws.proofs.Tests.{not-taken, not-left}
+use Rattle.laws.proofs.Bits.{back, widened}
+use Rattle.laws.proofs.Bounded.{Within, within-fits}
+use Rattle.pmv.specs.Component.{inRange, vectorOf, newPredictor, moved, movedRefusal}
+use Rattle.pmv.specs.Answers.{componentAnswer}
+use Rattle.pmv.specs.declared.component.Reconstructed.the-variants.{Component}
+use Rattle.pmv.proofs.Ranges.{range-fits, in-range-within, predictor-fits, moved-5, moved-6, moved-accepted, moved-is}
 use borrow.Author.Needs.{needs}
 use Rattle.pmv.proofs.component.moved_by.Statement.{statement}
 use Rattle.pmv.proofs.component.moved_by.Tie as tie
-use Rattle.pmv.proofs.component.moved_by.Reads as reads
-use Rattle.pmv.proofs.component.moved_by.Lts as lts
-use Rattle.pmv.proofs.component.in_range.Reads as in-range-reads
-use Rattle.pmv.proofs.component.next_predictor.Reads as next-predictor-reads
-use Rattle.pmv.proofs.component.wrap.Reads as wrap-reads
 
--- src/component.rt:290:21
+-- the two tests, in the definition's terms
+delta-test : (c : tie.After-in-range) → c .in-range .result ≡ inRange (c .before .args .b) (c .before .args .delta)
+delta-test c = rw (widened (c .before .args .delta) (c .before .fits .delta)) at (c .in-range .ensures)
+
+delta-in : (c : tie.Else1) → inRange (c .before .before .args .b) (c .before .before .args .delta) ≡ true
+delta-in c = sym (delta-test (c .before)) ∙ not-left _ (c .if1 .left)
+
+vector-is : (c : tie.After-wrap)
+    → toZ w64 (ofZ w64 (c .wrap .result))
+    ≡ vectorOf (c .before .before .before .args .b) (c .before .before .before .args .halved) (c .before .before .before .args .prior-pmv) (c .before .before .before .args .delta)
+vector-is c =
+    let s = c .before .before .before in
+    back w64 (c .wrap .result) (c .wrap .ok) ∙ (rw (toZ-ofZ (s .fits .prior-pmv), toZ-ofZ (s .fits .delta)) at (c .wrap .ensures))
+
+vector-test : (c : tie.After-in-range2)
+    → let a = c .before .before .before .before .args in
+    c .in-range2 .result ≡ inRange (a .b) (vectorOf (a .b) (a .halved) (a .prior-pmv) (a .delta))
+vector-test c = rw (vector-is (c .before)) at (c .in-range2 .ensures)
+
+vector-in : (c : tie.Else2)
+    → let a = c .before .before .before .before .before .args in
+    inRange (a .b) (vectorOf (a .b) (a .halved) (a .prior-pmv) (a .delta)) ≡ true
+vector-in c = sym (vector-test (c .before)) ∙ not-left _ (c .if2 .left)
+
+vector-within : (c : tie.Else2)
+    → let a = c .before .before .before .before .before .args in
+    Within 4096 (vectorOf (a .b) (a .halved) (a .prior-pmv) (a .delta))
+vector-within c = in-range-within _ (c .before .before .before .before .before .pre) (vector-in c)
+
 cast-in-range : tie.Need-cast-in-range
-cast-in-range c = ?
+cast-in-range c =
+    let f = c .fits .delta in
+    rw (toZ-ofZ f) (sfits-widen tt f)
 
--- src/component.rt:290:9
 in-range-requires : tie.Need-in-range-requires
 in-range-requires c κs = search needs
 
--- src/component.rt:291:9
 returns : tie.Need-returns
-returns c = ?
+returns c =
+    let s = c .before .before in
+    let a = s .args in
+    moved-5 (a .b) (a .halved) (a .prior-pmv) (a .delta) (sym (delta-test (c .before)) ∙ not-taken _ (c .if1 .taken))
 
--- src/component.rt:293:9
 wrap-requires : tie.Need-wrap-requires
 wrap-requires c κs = search needs
 
--- src/component.rt:294:9
 in-range-requires-2 : tie.Need-in-range-requires-2
 in-range-requires-2 c κs = search needs
 
--- src/component.rt:295:9
 returns-2 : tie.Need-returns-2
-returns-2 c = ?
+returns-2 c =
+    let a = c .before .before .before .before .before .args in
+    let e = sym (vector-test (c .before)) ∙ not-taken _ (c .if2 .taken) in
+    moved-6 (a .b) (a .halved) (a .prior-pmv) (a .delta) (delta-in (c .before .before .before)) e
 
--- src/component.rt:297:18
 cast-vector : tie.Need-cast-vector
-cast-vector c = ?
+cast-vector c = rw (vector-is (c .before .before)) (within-fits (vector-within c) (omega arith))
 
--- src/component.rt:300:18
 next-predictor-requires : tie.Need-next-predictor-requires
-next-predictor-requires c κs = ?
+next-predictor-requires c κs =
+    let w = vector-within c in
+    rw (vector-is (c .before .before), toZ-ofZ (within-fits {w = w32} w (omega arith))) w
 
--- src/component.rt:286:1
 returns-3 : tie.Need-returns-3
-returns-3 c = ?
+returns-3 c =
+    let e = c .before .before in
+    let s = e .before .before .before .before .before in
+    let a = s .args in
+    let f = within-fits {w = w32} (vector-within e) (omega arith) in
+    let v = vector-is (e .before .before) in
+    let n = rw (v, toZ-ofZ f) at (c .before .next-predictor .ensures) in
+    let k = back w32 (c .before .next-predictor .result) (c .before .next-predictor .ok) ∙ n in
+    rw (v, toZ-ofZ f, toZ-ofZ (s .fits .delta), toZ-ofZ (range-fits (s .pre)), moved-accepted (a .b) (a .halved) (a .prior-pmv) (a .delta) (delta-in (e .before .before .before)) (vector-in e))
+    (ap Component (moved-is (a .b) (a .halved) (a .prior-pmv) (a .delta) _ _ refl k))
 
 pub moved-by-spec : {M : Type 1} → statement M
 moved-by-spec =

@@ -1,27 +1,48 @@
+-- `raise` meets its contract.
+-- Assumes nothing.
+use mathlib.Core.Path.{_≡_, refl}
+use mathlib.Core.Bool.{true, false}
+use native.Mathlib.Omega.{arith}
+use lib.IntN.{_+ℤ_}
+use lib.Signed.{ltZ}
+use mir.Syntax.{w32, w64}
+use mir.Val.{SFits}
+use mir.Facts.{toZ-ofZ, sfits-widen}
+use Rattle.laws.proofs.Bits.{widened}
+use Rattle.laws.proofs.Bounded.{Within, within-add, within-fits, within-more}
+use Rattle.pmv.proofs.Ranges.{low-fits, range-fits}
 use Rattle.pmv.proofs.component.raise.Statement.{statement}
 use Rattle.pmv.proofs.component.raise.Tie as tie
-use Rattle.pmv.proofs.component.raise.Reads as reads
-use Rattle.pmv.proofs.component.raise.Lts as lts
 
--- src/component.rt:250:12
+sum : (c : tie.Start) → Within 4294975488 (c .args .v +ℤ c .args .b .range)
+sum c = within-add (c .pre .1) (c .pre .0 .range)
+
 cast-if1 : tie.Need-cast-if1
-cast-if1 c = ?
+cast-if1 c =
+    let f = low-fits (c .before .before .pre .0) in
+    rw (toZ-ofZ f) (sfits-widen tt f)
 
--- src/component.rt:251:20
 cast-result : tie.Need-cast-result
-cast-result c = ?
+cast-result c =
+    let f = range-fits (c .before .before .before .before .before .pre .0) in
+    rw (toZ-ofZ f) (sfits-widen tt f)
 
--- src/component.rt:251:16
 add-result : tie.Need-add-result
-add-result c = ?
+add-result c =
+    let s = c .before .before .before .before .before in
+    rw (toZ-ofZ (s .fits .v), widened (s .args .b .range) (range-fits (s .pre .0))) (within-fits (sum s) (omega arith))
 
--- src/component.rt:251:9
 returns : tie.Need-returns
-returns c = ?
+returns c =
+    let s = c .before .before .before .before .before in
+    let t = rw (toZ-ofZ (s .fits .v), widened (s .args .b .low) (low-fits (s .pre .0))) at (c .before .before .if1 .taken) in
+    rw (toZ-ofZ (s .fits .v), widened (s .args .b .range) (range-fits (s .pre .0)), toZ-ofZ {w = w64} {z = s .args .v +ℤ s .args .b .range} (within-fits (sum s) (omega arith)), t) (refl, sum s)
 
--- src/component.rt:246:1
 returns-2 : tie.Need-returns-2
-returns-2 c = ?
+returns-2 c =
+    let s = c .before .before .before in
+    let t = rw (toZ-ofZ (s .fits .v), widened (s .args .b .low) (low-fits (s .pre .0))) at (c .if1 .left) in
+    rw (toZ-ofZ (s .fits .v), t) (refl, within-more (s .pre .1) (omega arith))
 
 pub raise-spec : {M : Type 1} → statement M
 raise-spec = tie.close (tie.spec cast-if1 cast-result add-result returns returns-2)

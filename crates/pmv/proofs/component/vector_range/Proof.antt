@@ -1,31 +1,37 @@
+-- `vector_range` meets its contract.
+-- Assumes nothing.
+use mathlib.Core.Path.{_≡_, refl, sym, ap, _∙_}
+use Prim.Native.Nat.{ℕ}
+use Rattle.laws.proofs.Tests.{not-taken, not-left}
+use Rattle.pmv.specs.Delta.{scale, fCodeRefusal}
+use Rattle.pmv.specs.Component.{rangeOf}
+use Rattle.pmv.proofs.Deltas.{f-code-fits}
+use Rattle.pmv.proofs.Answers.{range-all}
 use borrow.Author.Needs.{needs}
 use Rattle.pmv.proofs.component.vector_range.Statement.{statement}
 use Rattle.pmv.proofs.component.vector_range.Tie as tie
-use Rattle.pmv.proofs.component.vector_range.Reads as reads
-use Rattle.pmv.proofs.component.vector_range.Lts as lts
-use Rattle.pmv.proofs.component.f_code_fits.Reads as f-code-fits-reads
-use Rattle.pmv.proofs.component.range_of.Reads as range-of-reads
-use Rattle.pmv.proofs.component.scale_of.Reads as scale-of-reads
 
--- src/component.rt:208:9
 f-code-fits-requires : tie.Need-f-code-fits-requires
 f-code-fits-requires c κs = search needs
 
--- src/component.rt:209:9
 returns : tie.Need-returns
-returns c = ?
+returns c =
+    let k = c .before .before .args .f-code in
+    let e = sym (c .before .f-code-fits .ensures) ∙ not-taken _ (c .if1 .taken) in
+    range-all _ (fCodeRefusal k) (rangeOf (scale k)) (rw e)
 
--- src/component.rt:211:32
 scale-of-requires : tie.Need-scale-of-requires
-scale-of-requires c κs = ?
+scale-of-requires c κs = f-code-fits _ (sym (c .before .f-code-fits .ensures) ∙ not-left _ (c .if1 .left))
 
--- src/component.rt:211:23
 range-of-requires : tie.Need-range-of-requires
-range-of-requires c κs = search needs
+range-of-requires c κs = c .scale-of .ensures .2
 
--- src/component.rt:203:1
 returns-2 : tie.Need-returns-2
-returns-2 c = ?
+returns-2 c =
+    let k = c .before .before .before .before .args .f-code in
+    let e = sym (c .before .before .before .f-code-fits .ensures) ∙ not-left _ (c .before .before .if1 .left) in
+    let p = c .range-of .ensures .0 ∙ ap rangeOf (c .before .scale-of .ensures .0) in
+    range-all _ (fCodeRefusal k) (rangeOf (scale k)) (rw (e, p))
 
 pub vector-range-spec : {M : Type 1} → statement M
 vector-range-spec =

@@ -1,32 +1,37 @@
+-- `wrap` meets its contract.
+-- Assumes nothing.
+use mathlib.Core.Path.{_≡_, _∙_}
+use mir.Syntax.{w32, w64}
+use mir.Facts.{toZ-ofZ}
+use Rattle.laws.proofs.Bits.{back}
+use Rattle.pmv.specs.Component.{wrapped}
 use borrow.Author.Needs.{needs}
 use Rattle.pmv.proofs.component.wrap.Statement.{statement}
 use Rattle.pmv.proofs.component.wrap.Tie as tie
-use Rattle.pmv.proofs.component.wrap.Reads as reads
-use Rattle.pmv.proofs.component.wrap.Lts as lts
-use Rattle.pmv.proofs.component.lower.Reads as lower-reads
-use Rattle.pmv.proofs.component.predicted.Reads as predicted-reads
-use Rattle.pmv.proofs.component.raise.Reads as raise-reads
-use Rattle.pmv.proofs.component.summed.Reads as summed-reads
 
--- src/component.rt:271:30
 predicted-requires : tie.Need-predicted-requires
 predicted-requires c κs = search needs
 
--- src/component.rt:271:23
 summed-requires : tie.Need-summed-requires
 summed-requires c κs = search needs
 
--- src/component.rt:271:14
 raise-requires : tie.Need-raise-requires
 raise-requires c κs = search needs
 
--- src/component.rt:271:5
 lower-requires : tie.Need-lower-requires
 lower-requires c κs = search needs
 
--- src/component.rt:267:1
 returns : tie.Need-returns
-returns c = ?
+unfolding wrapped
+returns c =
+    let s = c .before .before .before .before in
+    let p = c .before .before .before .predicted in
+    let u = c .before .before .summed in
+    let r = c .before .raise in
+    let e = rw (toZ-ofZ (s .fits .prior-pmv)) at (p .ensures) in
+    let f = rw (back w32 (p .result) (p .ok), toZ-ofZ (s .fits .delta), e) at (u .ensures .0) in
+    let g = rw (back w64 (u .result) (u .ok), f) at (r .ensures .0) in
+    back w64 (c .lower .result) (c .lower .ok) ∙ (rw (back w64 (r .result) (r .ok), g) at (c .lower .ensures))
 
 pub wrap-spec : {M : Type 1} → statement M
 wrap-spec =

@@ -1,43 +1,40 @@
+-- `place_of` meets its contract.
+-- Assumes nothing.
+use native.Mathlib.Omega.{arith}
+use Rattle.pmv.proofs.Numbers.{component-le, direction-le, index-le}
 use borrow.Author.Needs.{needs}
 use Rattle.pmv.proofs.predictors.place_of.Statement.{statement}
 use Rattle.pmv.proofs.predictors.place_of.Tie as tie
-use Rattle.pmv.proofs.predictors.place_of.Reads as reads
-use Rattle.pmv.proofs.predictors.place_of.Lts as lts
-use Rattle.pmv.proofs.kinds.Component.index.Reads as kinds-Component-index-reads
-use Rattle.pmv.proofs.kinds.Direction.index.Reads as kinds-Direction-index-reads
-use Rattle.pmv.proofs.kinds.VectorIndex.index.Reads as kinds-VectorIndex-index-reads
 
--- src/predictors.rt:17:5
 index-requires : tie.Need-index-requires
 index-requires c κs = search needs
 
--- src/predictors.rt:17:5
 mul-result : tie.Need-mul-result
-mul-result c = ?
+mul-result c = omega (arith, index-le (c .before .args .r), c .index .ensures)
 
--- src/predictors.rt:17:21
 index-requires-2 : tie.Need-index-requires-2
 index-requires-2 c κs = search needs
 
--- src/predictors.rt:17:21
 mul-result-2 : tie.Need-mul-result-2
-mul-result-2 c = ?
+mul-result-2 c = omega (arith, direction-le (c .before .before .args .s), c .index2 .ensures)
 
--- src/predictors.rt:17:5
 add-result : tie.Need-add-result
-add-result c = ?
+add-result c =
+    let a = c .before .before .args in
+    omega (arith, index-le (a .r), c .before .index .ensures, direction-le (a .s), c .index2 .ensures)
 
--- src/predictors.rt:17:37
 index-requires-3 : tie.Need-index-requires-3
 index-requires-3 c κs = search needs
 
--- src/predictors.rt:17:5
 add-result-2 : tie.Need-add-result-2
-add-result-2 c = ?
+add-result-2 c =
+    let a = c .before .before .before .args in
+    omega (arith, index-le (a .r), direction-le (a .s), component-le (a .t))
 
--- src/predictors.rt:14:1
 returns : tie.Need-returns
-returns c = ?
+returns c =
+    let a = c .before .before .before .args in
+    omega (arith, index-le (a .r), direction-le (a .s), component-le (a .t))
 
 pub place-of-spec : {M : Type 1} → statement M
 place-of-spec =

@@ -1,26 +1,32 @@
+-- `spatial_temporal_reset_applied` meets its contract.
+-- Assumes nothing.
+use mathlib.Core.Path.{_≡_, sym, ap, _∙_}
+use mathlib.Core.Bool.{Bool, _&&_}
+use Prim.Native.Nat.{ℕ}
+use lib.Dec.{eqb}
+use Rattle.pmv.specs.Update.{isSpatialOnly, spatialTemporalReset}
 use borrow.Author.Needs.{needs}
 use Rattle.pmv.proofs.update.spatial_temporal_reset_applied.Statement.{statement}
 use Rattle.pmv.proofs.update.spatial_temporal_reset_applied.Tie as tie
-use Rattle.pmv.proofs.update.spatial_temporal_reset_applied.Reads as reads
-use Rattle.pmv.proofs.update.spatial_temporal_reset_applied.Lts as lts
-use Rattle.pmv.proofs.kinds.PictureCodingType.is_inter.Reads as is-inter-reads
-use Rattle.pmv.proofs.predictors.Pmv.cleared.Reads as cleared-reads
 
--- src/update.rt:313:47
+test : (c : tie.After-is-inter)
+    → isSpatialOnly (c .before .args .picture-coding-type) (c .before .args .spatial-temporal-weight-class)
+    ≡ (eqb (c .before .args .spatial-temporal-weight-class) 4 && c .is-inter .result)
+test c = ap (λ (t : Bool). eqb (c .before .args .spatial-temporal-weight-class) 4 && t) (sym (c .is-inter .ensures))
+
 is-inter-requires : tie.Need-is-inter-requires
 is-inter-requires c κs = search needs
 
--- src/update.rt:316:18
 cleared-requires : tie.Need-cleared-requires
 cleared-requires c κs = search needs
 
--- src/update.rt:314:9
 returns : tie.Need-returns
-returns c = ?
+unfolding spatialTemporalReset
+returns c = rw (test (c .before .before) ∙ c .before .if1 .taken, c .cleared .ensures)
 
--- src/update.rt:306:1
 returns-2 : tie.Need-returns-2
-returns-2 c = ?
+unfolding spatialTemporalReset
+returns-2 c = rw (test (c .before) ∙ c .if1 .left)
 
 pub spatial-temporal-reset-applied-spec : {M : Type 1} → statement M
 spatial-temporal-reset-applied-spec =

@@ -6,19 +6,19 @@ use Rattle.pmv.proofs.update.updated_predictors.Lts as lts
 use Rattle.pmv.proofs.update.carried_out.Reads as carried-out-reads
 use Rattle.pmv.proofs.update.decide.Reads as decide-reads
 
--- src/update.rt:289:9
+-- src/update.rt:289:11
 decide-requires : tie.Need-decide-requires
 decide-requires c κs = search needs
 
--- src/update.rt:291:26
-enum-known-answer : tie.Need-enum-known-answer
-enum-known-answer c = search needs
+-- src/update.rt:290:26
+enum-known-number : tie.Need-enum-known-number
+enum-known-number c = search needs
 
--- src/update.rt:295:26
-enum-known-answer-2 : tie.Need-enum-known-answer-2
-enum-known-answer-2 c = search needs
+-- src/update.rt:294:26
+enum-known-outcome : tie.Need-enum-known-outcome
+enum-known-outcome c = search needs
 
--- src/update.rt:296:17
+-- src/update.rt:295:17
 carried-out-requires : tie.Need-carried-out-requires
 carried-out-requires c κs = search needs
 
@@ -35,8 +35,8 @@ updated-predictors-spec =
     tie.close
     (tie.spec
     decide-requires
-    enum-known-answer
-    enum-known-answer-2
+    enum-known-number
+    enum-known-outcome
     carried-out-requires
     returns
     returns-2)

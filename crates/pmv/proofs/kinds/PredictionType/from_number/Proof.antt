@@ -1,27 +1,24 @@
+-- `from_number` meets its contract.
+-- Assumes nothing.
+use borrow.Author.Tests.{ne-eqb}
 use Rattle.pmv.proofs.kinds.PredictionType.from_number.Statement.{statement}
 use Rattle.pmv.proofs.kinds.PredictionType.from_number.Tie as tie
-use Rattle.pmv.proofs.kinds.PredictionType.from_number.Reads as reads
-use Rattle.pmv.proofs.kinds.PredictionType.from_number.Lts as lts
 
--- src/kinds.rt:243:13
 returns : tie.Need-returns
-returns c = ?
+returns c = rw (c .if1 .taken)
 
--- src/kinds.rt:246:13
 returns-2 : tie.Need-returns-2
-returns-2 c = ?
+returns-2 c = rw (c .if2 .taken)
 
--- src/kinds.rt:249:13
 returns-3 : tie.Need-returns-3
-returns-3 c = ?
+returns-3 c = rw (c .if3 .taken)
 
--- src/kinds.rt:252:13
 returns-4 : tie.Need-returns-4
-returns-4 c = ?
+returns-4 c = rw (c .if4 .taken)
 
--- src/kinds.rt:239:5
 returns-5 : tie.Need-returns-5
-returns-5 c = ?
+returns-5 c =
+    rw (ne-eqb _ 0 (c .before .before .before .if1 .left), ne-eqb _ 1 (c .before .before .if2 .left), ne-eqb _ 2 (c .before .if3 .left), ne-eqb _ 3 (c .if4 .left))
 
 pub from-number-spec : {M : Type 1} → statement M
 from-number-spec = tie.close (tie.spec returns returns-2 returns-3 returns-4 returns-5)

@@ -1,0 +1,121 @@
+-- f_code, motion_code and delta: how large they are, and when each of 1 to 4 is given.
+-- Assumes nothing.
+use mathlib.Core.Path.{_≡_, refl, sym, _∙_}
+use mathlib.Core.Bool.{Bool, true, false, not, _&&_, _||_, cond}
+use Prim.Native.Nat.{ℕ, suc, _+_, _-_, _*_, _^_, _≤_}
+use native.Mathlib.Nat.{mul-le-mul, pow-le-pow-right}
+use native.Mathlib.Omega.{arith}
+use lib.Dec.{eqb, leb}
+use lib.IntN.{ℤ, pos, negsuc, negℤ, natAbs}
+use lib.Signed.{ltZ, leZ}
+use lib.Pow.{pow-pos}
+use borrow.Author.Tests.{eqb-false, ne-eqb}
+use mir.Syntax.{w32}
+use mir.Val.{SFits, ofZ}
+use Rattle.laws.proofs.Signed.{le-yes, abs-z}
+use Rattle.laws.proofs.Bounded.{Within, within-fits, within-neg}
+use Rattle.laws.proofs.Tests.{both, range}
+use Rattle.combine_predictions.specs.Refusals.{cause, orElse}
+use Rattle.forming_predictions.proofs.Refusals.{none-first, none-second, no-cause}
+use Rattle.pmv.specs.Refusals.{codeOutside}
+use Rattle.pmv.specs.Delta.{scale, isPlain, magnitude, withSign, delta, fCodeFits, codeFits, residualRefusal, fCodeRefusal, deltaRefusal}
+use Rattle.pmv.specs.declared.component.MotionResidual.{MotionResidual}
+
+-- ---- f_code and f
+pub f-code-range : (k : ℕ) → fCodeRefusal k ≡ 0 → (1 ≤ k) × (k ≤ 9)
+unfolding fCodeFits
+f-code-range k e = range 1 9 k (no-cause (leb 1 k && leb k 9) 1 (omega arith) e)
+
+pub f-code-fits : (k : ℕ) → fCodeFits k ≡ true → fCodeRefusal k ≡ 0
+f-code-fits k e = rw e
+
+pub scale-range : (k : ℕ) → k ≤ 9 → (1 ≤ scale k) × (scale k ≤ 256)
+unfolding scale
+scale-range k h = (pow-pos (k - 1), pow-le-pow-right {n = 2} (omega arith) {i = k - 1} {j = 8} (omega arith))
+
+-- ---- motion_code
+pub code-within : (z : ℤ) → codeFits z ≡ true → Within 16 z
+unfolding codeFits
+code-within z e =
+    let t = both (leZ (negsuc 15) z) (leZ z (pos 16)) e in
+    let a = le-yes (negsuc 15) z (t .0) in
+    let b = le-yes z (pos 16) (t .1) in
+    record { above = omega arith; below = omega arith }
+
+pub abs-within : {n : ℕ} (z : ℤ) → Within n z → natAbs z ≤ n
+abs-within (pos a) h = omega (arith, h .above)
+abs-within (negsuc a) h = omega (arith, h .below)
+
+-- the code's test for 0 goes by the bits
+zero-bits : (z : ℤ) → SFits w32 z → eqb (ofZ w32 z) 0 ≡ eqb (natAbs z) 0
+zero-bits (pos n) f = refl
+zero-bits (negsuc n) f =
+    ne-eqb (2 ^ 32 - suc n) 0 (λ e. absurd (omega (arith, f .sfits))) ∙ sym (ne-eqb (suc n) 0 (λ e. absurd (omega arith)))
+
+pub plain-bits : (f : ℕ) (z : ℤ) → SFits w32 z → (eqb f 1 || eqb (ofZ w32 z) 0) ≡ isPlain f z
+unfolding isPlain
+plain-bits f z h = rw (zero-bits z h)
+
+-- ---- delta
+pub delta-plain : (f : ℕ) (z : ℤ) (n : ℕ) → isPlain f z ≡ true → delta f z n ≡ z
+unfolding delta
+delta-plain f z n e = rw e
+
+pub delta-scaled : (f : ℕ) (z : ℤ) (n : ℕ) → isPlain f z ≡ false → delta f z n ≡ withSign z (magnitude f z n)
+unfolding delta
+delta-scaled f z n e = rw e
+
+or-none : (a b : Bool) → (a || b) ≡ false → b ≡ false
+or-none true b e = let z : _≡_ {A = ℕ} 0 1 = cc in absurd (omega arith)
+or-none false b e = e
+
+-- a code that is not plain is not 0
+pub not-plain : (f : ℕ) (z : ℤ) → isPlain f z ≡ false → 1 ≤ natAbs z
+unfolding isPlain
+not-plain f z e = let h = eqb-false (natAbs z) 0 (or-none (eqb f 1) (eqb (natAbs z) 0) e) in omega arith
+
+pub product-le : (m f : ℕ) → m ≤ 16 → f ≤ 256 → (m - 1) * f ≤ 3840
+product-le m f h k = let p : m - 1 ≤ 15 = omega arith in mul-le-mul p k
+
+sign-within : {n : ℕ} (z : ℤ) (m : ℕ) → m ≤ n → Within n (withSign z m)
+sign-within {n} z m h = at (ltZ z (pos 0))
+  where
+    plus : Within n (pos m)
+    plus = record { above = omega arith; below = omega arith }
+
+    at : (t : Bool) → Within n (cond t (negℤ (pos m)) (pos m))
+    at true = within-neg plus
+    at false = plus
+
+pub sign-fits : (z : ℤ) (m : ℕ) → m ≤ 4096 → SFits w32 (withSign z m)
+sign-fits z m h = within-fits (sign-within z m h) (omega arith)
+
+-- ---- when each number is given
+module _ (k : ℕ) (z : ℤ) (r : MotionResidual) where
+  pub refused-1 : fCodeFits k ≡ false → 1 ≡ deltaRefusal k z r
+  unfolding deltaRefusal
+  refused-1 e = rw e
+
+  pub refused-2 : fCodeFits k ≡ true → codeFits z ≡ false → 2 ≡ deltaRefusal k z r
+  unfolding deltaRefusal
+  refused-2 e h = rw (e, h)
+
+  pub refused-residual : fCodeFits k ≡ true → codeFits z ≡ true → residualRefusal (isPlain (scale k) z) r ≡ deltaRefusal k z r
+  unfolding deltaRefusal
+  refused-residual e h = rw (e, h)
+
+  abbrev rest : ℕ
+  rest = orElse (cause (not (codeFits z)) codeOutside) (residualRefusal (isPlain (scale k) z) r)
+
+  -- where none is
+  pub accepted-f-code : deltaRefusal k z r ≡ 0 → fCodeRefusal k ≡ 0
+  unfolding deltaRefusal
+  accepted-f-code e = none-first (fCodeRefusal k) rest e
+
+  pub accepted-code : deltaRefusal k z r ≡ 0 → Within 16 z
+  unfolding deltaRefusal
+  accepted-code e =
+      code-within z
+      (no-cause (codeFits z) 2 (omega arith)
+      (none-first (cause (not (codeFits z)) codeOutside) (residualRefusal (isPlain (scale k) z) r)
+      (none-second (fCodeRefusal k) rest e)))

@@ -1,0 +1,103 @@
+-- The range of vectors and the wrap.
+-- Assumes nothing.
+use mathlib.Core.Path.{_≡_, refl}
+use mathlib.Core.Bool.{Bool, true, false, not, _&&_, cond}
+use Prim.Native.Nat.{ℕ, _+_, _*_, _≤_, _<_}
+use native.Mathlib.Omega.{arith}
+use lib.IntN.{ℤ, pos, negℤ, _+ℤ_, _-ℤ_, _*ℤ_}
+use lib.Signed.{ltZ, leZ}
+use mir.Syntax.{w32}
+use mir.Val.{SFits}
+use Rattle.laws.proofs.Signed.{zp, zn, sub-z, le-yes}
+use Rattle.laws.proofs.Bounded.{Within, within-add, within-sub, within-neg, within-mul, within-more, within-fits, fits-within}
+use Rattle.laws.proofs.Tests.{both}
+use Rattle.forming_predictions.specs.Splitting.{floorHalf}
+use Rattle.forming_predictions.proofs.Splitting.{floor-fits}
+use Rattle.pmv.specs.Component.{rangeOf, inRange, prediction, raised, lowered, wrapped, vectorOf, newPredictor, moved, movedRefusal}
+use Rattle.pmv.specs.Answers.{componentAnswer}
+use Rattle.pmv.specs.inner.Bounds.{Small}
+use Rattle.pmv.specs.declared.component.VectorRange.{VectorRange}
+use Rattle.pmv.specs.declared.component.ReconstructedComponent.{ReconstructedComponent}
+use Rattle.pmv.specs.declared.component.Reconstructed.the-variants as C
+
+pub within-nat : (n m : ℕ) → n ≤ m → Within m (pos n)
+within-nat n m h = record { above = omega arith; below = omega arith }
+
+less-one : (n m : ℕ) → n ≤ m → 1 ≤ m → Within m (pos n -ℤ pos 1)
+less-one n m h k = let s = sub-z (pos n) (pos 1) in record { above = omega arith; below = omega arith }
+
+-- the range of an f up to 256 is small
+pub range-small : (f : ℕ) → f ≤ 256 → Small (rangeOf f)
+unfolding rangeOf
+range-small f h =
+    record {
+      low = within-neg (within-nat (16 * f) 4096 (omega arith));
+      high = less-one (16 * f) 4096 (omega arith) (omega arith);
+      range = within-nat (32 * f) 8192 (omega arith);
+    }
+
+-- its numbers fit
+pub low-fits : {b : VectorRange} → Small b → SFits w32 (b .low)
+low-fits s = within-fits (s .low) (omega arith)
+
+pub high-fits : {b : VectorRange} → Small b → SFits w32 (b .high)
+high-fits s = within-fits (s .high) (omega arith)
+
+pub range-fits : {b : VectorRange} → Small b → SFits w32 (b .range)
+range-fits s = within-fits (s .range) (omega arith)
+
+choose-within : {n : ℕ} {x y : ℤ} (t : Bool) → Within n x → Within n y → Within n (cond t x y)
+choose-within true p q = p
+choose-within false p q = q
+
+pub prediction-fits : (h : Bool) {z : ℤ} → SFits w32 z → SFits w32 (prediction h z)
+prediction-fits true f = floor-fits f
+prediction-fits false f = f
+
+pub sum-within : {x y : ℤ} → SFits w32 x → SFits w32 y → Within 4294967296 (x +ℤ y)
+sum-within f g = within-add (fits-within f) (fits-within g)
+
+pub raised-within : {b : VectorRange} {v : ℤ} → Small b → Within 4294967296 v → Within 4294975488 (raised b v)
+raised-within {b} {v} s w =
+    choose-within (ltZ v (b .low)) (within-add w (s .range)) (within-more w (omega arith))
+
+pub lowered-within : {b : VectorRange} {v : ℤ} → Small b → Within 4294975488 v → Within 4294983680 (lowered b v)
+lowered-within {b} {v} s w =
+    choose-within (ltZ (b .high) v) (within-sub w (s .range)) (within-more w (omega arith))
+
+-- a vector in range is as small
+pub in-range-within : {b : VectorRange} (v : ℤ) → Small b → inRange b v ≡ true → Within 4096 v
+in-range-within {b} v s e =
+    let t = both (leZ (b .low) v) (leZ v (b .high)) e in
+    let p = le-yes (b .low) v (t .0) in
+    let q = le-yes v (b .high) (t .1) in
+    let l = s .low .below in
+    let h = s .high .above in
+    record { above = omega arith; below = omega arith }
+
+pub predictor-fits : (h : Bool) {v : ℤ} → Within 4096 v → SFits w32 (newPredictor h v)
+predictor-fits true w = within-fits (within-mul 2 w) (omega arith)
+predictor-fits false w = within-fits w (omega arith)
+
+-- ---- when each number is given
+module _ (b : VectorRange) (h : Bool) (p d : ℤ) where
+  pub moved-5 : inRange b d ≡ false → C.Refused 5 ≡ componentAnswer (movedRefusal b h p d) (moved b h p d)
+  unfolding movedRefusal
+  moved-5 e = rw e
+
+  pub moved-6 : inRange b d ≡ true → inRange b (vectorOf b h p d) ≡ false
+      → C.Refused 6 ≡ componentAnswer (movedRefusal b h p d) (moved b h p d)
+  unfolding movedRefusal
+  moved-6 e f = rw (e, f)
+
+  pub moved-accepted : inRange b d ≡ true → inRange b (vectorOf b h p d) ≡ true → movedRefusal b h p d ≡ 0
+  unfolding movedRefusal
+  moved-accepted e f = rw (e, f)
+
+  -- the four numbers
+  pub moved-is : (v n : ℤ) → v ≡ vectorOf b h p d → n ≡ newPredictor h v
+      → _≡_ {A = ReconstructedComponent}
+      (record { «vector_prime» = v; «new_pmv» = n; delta = d; range = b .range })
+      (moved b h p d)
+  unfolding moved
+  moved-is v n e f = rw (f, e)
