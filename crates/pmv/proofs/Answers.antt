@@ -5,16 +5,17 @@ use mathlib.Core.Bool.{Bool, true, false}
 use Prim.Native.Nat.{ℕ, zero, suc}
 use native.Mathlib.Omega.{arith}
 use lib.IntN.{ℤ}
-use Rattle.combine_predictions.specs.Refusals.{unlessRefused}
+use Rattle.combine_predictions.specs.Refusals.{orElse, unlessRefused}
 use Rattle.forming_predictions.specs.SampleAnswers.{valueUnless}
 use Rattle.pmv.specs.Update.{updateRefusal, updateOutcome, after, updated}
-use Rattle.pmv.specs.Answers.{deltaAnswer, deltaNumber, deltaValue, rangeAnswer, rangeNumber, rangeValue, componentAnswer, reconstructedNumber, reconstructedValue, updateAnswer, updateNumber, updateValue}
+use Rattle.pmv.specs.Answers.{deltaAnswer, deltaNumber, deltaValue, rangeAnswer, rangeNumber, rangeValue, reconstructedAnswer, reconstructedNumber, reconstructedValue, updateAnswer, updateNumber, updateValue}
 use Rattle.pmv.specs.declared.component.ComputedDelta.{ComputedDelta}
 use Rattle.pmv.specs.declared.component.ComputedDelta.the-variants as D
 use Rattle.pmv.specs.declared.component.VectorRange.{VectorRange}
 use Rattle.pmv.specs.declared.component.FoundRange.{FoundRange}
 use Rattle.pmv.specs.declared.component.ReconstructedComponent.{ReconstructedComponent}
 use Rattle.pmv.specs.declared.component.Reconstructed.{Reconstructed}
+use Rattle.pmv.specs.declared.component.Reconstructed.the-variants as C
 use Rattle.pmv.specs.declared.update.PmvUpdateOutcome.{PmvUpdateOutcome}
 use Rattle.pmv.specs.declared.update.Updated.{Updated}
 use Rattle.pmv.specs.declared.update.Updated.the-variants as U
@@ -42,11 +43,11 @@ range-all r n v e = rw e (refl, at n)
     at (suc n) = (refl, refl)
 
 pub component-all : (r : Reconstructed) (n : ℕ) (v : ReconstructedComponent)
-    → r ≡ componentAnswer n v
-    → (r ≡ componentAnswer n v) × ((reconstructedNumber r ≡ n) × (reconstructedValue r ≡ valueUnless (reconstructedNumber r) v))
+    → r ≡ reconstructedAnswer n v
+    → (r ≡ reconstructedAnswer n v) × ((reconstructedNumber r ≡ n) × (reconstructedValue r ≡ valueUnless (reconstructedNumber r) v))
 component-all r n v e = rw e (refl, at n)
   where
-    at : (n : ℕ) → (reconstructedNumber (componentAnswer n v) ≡ n) × (reconstructedValue (componentAnswer n v) ≡ valueUnless (reconstructedNumber (componentAnswer n v)) v)
+    at : (n : ℕ) → (reconstructedNumber (reconstructedAnswer n v) ≡ n) × (reconstructedValue (reconstructedAnswer n v) ≡ valueUnless (reconstructedNumber (reconstructedAnswer n v)) v)
     at zero = (refl, refl)
     at (suc n) = (refl, refl)
 
@@ -85,6 +86,11 @@ pub delta-given : (m : ℕ) (d v : ℤ) → D.Delta v ≡ deltaAnswer m d → (m
 unfolding isDelta valueOr
 delta-given zero d v e = (refl, ap (valueOr d) e)
 delta-given (suc m) d v e = let p = ap isDelta e in let z : _≡_ {A = ℕ} 0 1 = cc in absurd (omega arith)
+
+-- ---- a component whose delta was refused
+pub component-no : (n m k : ℕ) (v : ReconstructedComponent) → m ≡ n → (m ≡ 0 → ⊥) → C.Refused n ≡ reconstructedAnswer (orElse m k) v
+component-no n zero k v e h = absurd (h refl)
+component-no n (suc m) k v e h = rw (← e)
 
 -- ---- an update, taken apart
 isOutcome : Updated → Bool

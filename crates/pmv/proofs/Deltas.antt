@@ -15,10 +15,10 @@ use mir.Val.{SFits, ofZ}
 use Rattle.laws.proofs.Signed.{le-yes, abs-z}
 use Rattle.laws.proofs.Bounded.{Within, within-fits, within-neg}
 use Rattle.laws.proofs.Tests.{both, range}
-use Rattle.combine_predictions.specs.Refusals.{cause, orElse}
+use Rattle.combine_predictions.specs.Refusals.{cause}
 use Rattle.forming_predictions.proofs.Refusals.{none-first, none-second, no-cause}
 use Rattle.pmv.specs.Refusals.{codeOutside}
-use Rattle.pmv.specs.Delta.{scale, isPlain, magnitude, withSign, delta, fCodeFits, codeFits, residualRefusal, fCodeRefusal, deltaRefusal}
+use Rattle.pmv.specs.Delta.{scale, isPlain, magnitude, withSign, delta, fCodeFits, codeFits, residualRefusal, codeRefusal, fCodeRefusal, deltaRefusal}
 use Rattle.pmv.specs.declared.component.MotionResidual.{MotionResidual}
 
 -- ---- f_code and f
@@ -91,31 +91,36 @@ pub sign-fits : (z : ℤ) (m : ℕ) → m ≤ 4096 → SFits w32 (withSign z m)
 sign-fits z m h = within-fits (sign-within z m h) (omega arith)
 
 -- ---- when each number is given
+module _ (f : ℕ) (z : ℤ) (r : MotionResidual) where
+  pub refused-2 : codeFits z ≡ false → 2 ≡ codeRefusal f z r
+  unfolding codeRefusal
+  refused-2 e = rw e
+
+  pub refused-residual : codeFits z ≡ true → residualRefusal (isPlain f z) r ≡ codeRefusal f z r
+  unfolding codeRefusal
+  refused-residual e = rw e
+
+  code-accepted : codeRefusal f z r ≡ 0 → Within 16 z
+  unfolding codeRefusal
+  code-accepted e =
+      code-within z
+      (no-cause (codeFits z) 2 (omega arith)
+      (none-first (cause (not (codeFits z)) codeOutside) (residualRefusal (isPlain f z) r) e))
+
 module _ (k : ℕ) (z : ℤ) (r : MotionResidual) where
   pub refused-1 : fCodeFits k ≡ false → 1 ≡ deltaRefusal k z r
   unfolding deltaRefusal
   refused-1 e = rw e
 
-  pub refused-2 : fCodeFits k ≡ true → codeFits z ≡ false → 2 ≡ deltaRefusal k z r
+  pub refused-code : fCodeFits k ≡ true → codeRefusal (scale k) z r ≡ deltaRefusal k z r
   unfolding deltaRefusal
-  refused-2 e h = rw (e, h)
-
-  pub refused-residual : fCodeFits k ≡ true → codeFits z ≡ true → residualRefusal (isPlain (scale k) z) r ≡ deltaRefusal k z r
-  unfolding deltaRefusal
-  refused-residual e h = rw (e, h)
-
-  abbrev rest : ℕ
-  rest = orElse (cause (not (codeFits z)) codeOutside) (residualRefusal (isPlain (scale k) z) r)
+  refused-code e = rw e
 
   -- where none is
   pub accepted-f-code : deltaRefusal k z r ≡ 0 → fCodeRefusal k ≡ 0
   unfolding deltaRefusal
-  accepted-f-code e = none-first (fCodeRefusal k) rest e
+  accepted-f-code e = none-first (fCodeRefusal k) (codeRefusal (scale k) z r) e
 
   pub accepted-code : deltaRefusal k z r ≡ 0 → Within 16 z
   unfolding deltaRefusal
-  accepted-code e =
-      code-within z
-      (no-cause (codeFits z) 2 (omega arith)
-      (none-first (cause (not (codeFits z)) codeOutside) (residualRefusal (isPlain (scale k) z) r)
-      (none-second (fCodeRefusal k) rest e)))
+  accepted-code e = code-accepted (scale k) z r (none-second (fCodeRefusal k) (codeRefusal (scale k) z r) e)

@@ -13,8 +13,8 @@ use Rattle.laws.proofs.Bounded.{Within, within-add, within-sub, within-neg, wit
 use Rattle.laws.proofs.Tests.{both}
 use Rattle.forming_predictions.specs.Splitting.{floorHalf}
 use Rattle.forming_predictions.proofs.Splitting.{floor-fits}
-use Rattle.pmv.specs.Component.{rangeOf, inRange, prediction, raised, lowered, wrapped, vectorOf, newPredictor, moved, movedRefusal}
-use Rattle.pmv.specs.Answers.{componentAnswer}
+use Rattle.pmv.specs.Component.{rangeOf, inRange, prediction, raised, lowered, wrapped, vectorOf, newPredictor, fromDelta, fromDeltaRefusal}
+use Rattle.pmv.specs.Answers.{reconstructedAnswer}
 use Rattle.pmv.specs.inner.Bounds.{Small}
 use Rattle.pmv.specs.declared.component.VectorRange.{VectorRange}
 use Rattle.pmv.specs.declared.component.ReconstructedComponent.{ReconstructedComponent}
@@ -81,23 +81,23 @@ predictor-fits false w = within-fits w (omega arith)
 
 -- ---- when each number is given
 module _ (b : VectorRange) (h : Bool) (p d : ℤ) where
-  pub moved-5 : inRange b d ≡ false → C.Refused 5 ≡ componentAnswer (movedRefusal b h p d) (moved b h p d)
-  unfolding movedRefusal
-  moved-5 e = rw e
+  pub from-delta-5 : inRange b d ≡ false → C.Refused 5 ≡ reconstructedAnswer (fromDeltaRefusal b h p d) (fromDelta b h p d)
+  unfolding fromDeltaRefusal
+  from-delta-5 e = rw e
 
-  pub moved-6 : inRange b d ≡ true → inRange b (vectorOf b h p d) ≡ false
-      → C.Refused 6 ≡ componentAnswer (movedRefusal b h p d) (moved b h p d)
-  unfolding movedRefusal
-  moved-6 e f = rw (e, f)
+  pub from-delta-6 : inRange b d ≡ true → inRange b (vectorOf b h p d) ≡ false
+      → C.Refused 6 ≡ reconstructedAnswer (fromDeltaRefusal b h p d) (fromDelta b h p d)
+  unfolding fromDeltaRefusal
+  from-delta-6 e f = rw (e, f)
 
-  pub moved-accepted : inRange b d ≡ true → inRange b (vectorOf b h p d) ≡ true → movedRefusal b h p d ≡ 0
-  unfolding movedRefusal
-  moved-accepted e f = rw (e, f)
+  pub from-delta-accepted : inRange b d ≡ true → inRange b (vectorOf b h p d) ≡ true → fromDeltaRefusal b h p d ≡ 0
+  unfolding fromDeltaRefusal
+  from-delta-accepted e f = rw (e, f)
 
   -- the four numbers
-  pub moved-is : (v n : ℤ) → v ≡ vectorOf b h p d → n ≡ newPredictor h v
+  pub from-delta-is : (v n : ℤ) → v ≡ vectorOf b h p d → n ≡ newPredictor h v
       → _≡_ {A = ReconstructedComponent}
       (record { «vector_prime» = v; «new_pmv» = n; delta = d; range = b .range })
-      (moved b h p d)
-  unfolding moved
-  moved-is v n e f = rw (f, e)
+      (fromDelta b h p d)
+  unfolding fromDelta
+  from-delta-is v n e f = rw (f, e)

@@ -1,21 +1,23 @@
 -- The constant table agrees with the rule: one test over all of its 64 places, which is computed.
 -- Assumes nothing.
 use mathlib.Core.Path.{_≡_, refl, sym, ap, _∙_}
-use mathlib.Core.Bool.{Bool, true, false, not, _&&_}
+use mathlib.Core.Bool.{Bool, true, false, not, _&&_, _||_}
 use mathlib.Core.List.{List, [], _∷_}
 use Prim.Native.Nat.{ℕ, _+_, _-_, _*_}
 use native.Mathlib.Omega.{arith}
 use borrow.Author.Tests.{lt-ltb}
 use lib.Dec.{T, ltb, eqb, eqb→eq}
 use lib.ListN.{getD}
+use Rattle.laws.proofs.Tests.{not-taken, not-left}
+use Rattle.laws.proofs.Tests as Tests
 use Rattle.pmv.specs.Kinds.{flagNumber, typeNumber}
-use Rattle.combine_predictions.specs.Refusals.{cause}
-use Rattle.pmv.specs.Refusals.{intraWithMotion}
 use Rattle.pmv.specs.Answers.{updateAnswer}
-use Rattle.pmv.specs.Update.{intraOutcome, decidedRefusal, decidedOutcome, outcomeNumber}
-use Rattle.pmv.specs.inner.Rows.{rowAnswer, tableAnswer}
+use Rattle.pmv.specs.Update.{decidedRefusal, decidedOutcome, outcomeNumber}
+use Rattle.pmv.specs.inner.Rows.{rowAnswer, tableAnswer, untypedRefusal, untypedOutcome}
 use Rattle.pmv.specs.declared.kinds.PredictionType.{PredictionType}
 use Rattle.pmv.specs.declared.kinds.PredictionType.the-variants.{FieldBased, FrameBased, SixteenByEight, DualPrime}
+use Rattle.pmv.specs.declared.kinds.MotionType.{MotionType}
+use Rattle.pmv.specs.declared.kinds.MotionType.the-variants.{Absent}
 use Rattle.pmv.specs.declared.update.PmvUpdateOutcome.{PmvUpdateOutcome}
 use Rattle.pmv.specs.declared.update.PmvUpdateOutcome.the-variants as O
 use Rattle.pmv.specs.declared.update.Updated.{Updated}
@@ -144,9 +146,30 @@ agrees p t f b i =
     (types-at (λ t. flags (λ f. flags (λ b. flags (λ i. right-row p t f b i))))
     (flags-at (λ p. types (λ t. flags (λ f. flags (λ b. flags (λ i. right-row p t f b i))))) all-right p) t) f) b) i))
 
--- ---- concealment, beside the table
-pub intra-row : (c m : Bool) → (c && not m) ≡ false
-    → updateAnswer (cause m intraWithMotion) (intraOutcome false) ≡ updateAnswer (cause m intraWithMotion) (intraOutcome c)
-intra-row false m e = refl
-intra-row true true e = refl
-intra-row true false e = let z : _≡_ {A = ℕ} 0 1 = cc in absurd (omega arith)
+-- ---- beside the table
+module _ (frame : Bool) (m : MotionType) (f b : Bool) where
+  -- concealment counts for an intra macroblock that is not refused
+  pub concealed : (c i : Bool) → ((c && i) && not (f || b)) ≡ true
+      → Outcome O.IntraConcealmentCopyForwardFirst ≡ updateAnswer (decidedRefusal frame m f b i) (decidedOutcome frame m f b i c)
+  unfolding decidedRefusal decidedOutcome
+  concealed c i e =
+      let t = Tests.both (c && i) (not (f || b)) e in
+      let u = Tests.both c i (t .0) in
+      rw (u .0, u .1, not-taken (f || b) (t .1))
+
+  -- and for no other
+  pub not-concealed : (c i : Bool) → ((c && i) && not (f || b)) ≡ false
+      → updateAnswer (decidedRefusal frame m f b i) (decidedOutcome frame m f b i false)
+      ≡ updateAnswer (decidedRefusal frame m f b i) (decidedOutcome frame m f b i c)
+  unfolding decidedRefusal decidedOutcome
+  not-concealed false i e = refl
+  not-concealed true false e = refl
+  not-concealed true true e = rw (not-left (f || b) e)
+
+-- without a type, the picture does not matter
+pub untyped : (frame f b i : Bool)
+    → updateAnswer (untypedRefusal f b i) (untypedOutcome i)
+    ≡ updateAnswer (decidedRefusal frame Absent f b i) (decidedOutcome frame Absent f b i false)
+unfolding untypedRefusal untypedOutcome decidedRefusal decidedOutcome
+untyped frame f b true = refl
+untyped frame f b false = refl

@@ -1,18 +1,18 @@
 -- A vector's two parts, one after the other.
 -- Assumes nothing.
 use mathlib.Core.Path.{_≡_, refl, sym, ap, _∙_}
-use mathlib.Core.Bool.{Bool}
+use mathlib.Core.Bool.{Bool, true, false}
 use Prim.Native.Nat.{ℕ, zero, suc, _+_, _*_}
 use native.Mathlib.Omega.{arith}
 use lib.IntN.{ℤ, pos}
-use lib.ListN.{getD, set}
 use lib.Seq.{getD-set-other}
-use Rattle.combine_predictions.specs.Refusals.{orElse}
+use Rattle.combine_predictions.specs.Refusals.{orElse, unlessRefused}
 use Rattle.forming_predictions.specs.SampleAnswers.{valueUnless}
 use Rattle.pmv.specs.Component.{halves, componentOf, componentRefusal}
-use Rattle.pmv.specs.Predictors.{place, predictor, stored}
-use Rattle.pmv.specs.Answers.{componentAnswer, reconstructedNumber, reconstructedValue, vectorNumber, vectorValue}
-use Rattle.pmv.specs.Vector.{Reading, ported, keeping, decoded, withVertical, joined, horizontalPart, verticalPart, afterHorizontal, reconstructed, horizontalRefusal, verticalRefusal, vectorRefusal, vectorOf}
+use Rattle.pmv.specs.Predictors.{pmvIndex, predictor, stored}
+use Rattle.pmv.specs.Answers.{reconstructedAnswer, reconstructedNumber, reconstructedValue, vectorAnswer, vectorNumber, vectorValue}
+use Rattle.pmv.specs.Vector.{ported, part, partRefusal, decoded, horizontalRefusal, verticalRefusal, vectorRefusal, components, horizontalStored, bothStored, vectorPredictors, reconstructed}
+use Rattle.pmv.specs.inner.Steps.{withVertical, joined}
 use Rattle.pmv.specs.declared.kinds.VectorIndex.{VectorIndex}
 use Rattle.pmv.specs.declared.kinds.Direction.{Direction}
 use Rattle.pmv.specs.declared.kinds.Component.{Component}
@@ -26,29 +26,55 @@ use Rattle.pmv.specs.declared.component.Reconstructed.the-variants as C
 use Rattle.pmv.specs.declared.predictors.Pmv.{Pmv}
 use Rattle.pmv.specs.declared.vector.MotionVector.{MotionVector}
 use Rattle.pmv.specs.declared.vector.DecodedComponent.{DecodedComponent}
+use Rattle.pmv.specs.declared.vector.VectorComponents.{VectorComponents}
+use Rattle.pmv.specs.declared.vector.ReconstructedVector.{ReconstructedVector}
 use Rattle.pmv.specs.declared.vector.ReconstructedVector.the-variants as Vec
 use Rattle.pmv.specs.declared.vector.DecodedVector.{DecodedVector}
 use Rattle.pmv.proofs.Answers.{component-all}
 
--- ---- a component
-pub keeping-answer : (x : Reconstructed) (p : Pmv) (r : VectorIndex) (s : Direction) (t : Component) → keeping x p r s t .answer ≡ x
-keeping-answer (C.Component c) p r s t = refl
-keeping-answer (C.Refused n) p r s t = refl
+-- ---- a component's answer, taken apart
+isComponent : Reconstructed → Bool
+isComponent (C.Component c) = true
+isComponent (C.Refused n) = false
+
+componentOr : ReconstructedComponent → Reconstructed → ReconstructedComponent
+componentOr z (C.Component c) = c
+componentOr z (C.Refused n) = z
+
+-- what the two arms of a match make of an answer and of predictors
+pub refused-keeps : (n m : ℕ) (c : ReconstructedComponent) (q p : Pmv)
+    → C.Refused n ≡ reconstructedAnswer m c
+    → _≡_ {A = DecodedComponent}
+    (record { answer = C.Refused n; pmv = p })
+    (record { answer = reconstructedAnswer m c; pmv = unlessRefused m q p })
+unfolding isComponent
+refused-keeps n zero c q p e = let z = ap isComponent e in let y : _≡_ {A = ℕ} 0 1 = cc in absurd (omega arith)
+refused-keeps n (suc m) c q p e = λ i. record { answer = e i; pmv = p }
+
+pub accepted-stores : (m : ℕ) (v c : ReconstructedComponent) (r : VectorIndex) (s : Direction) (t : Component) (w p : Pmv)
+    → C.Component v ≡ reconstructedAnswer m c
+    → w ≡ stored p r s t (v .«new_pmv»)
+    → _≡_ {A = DecodedComponent}
+    (record { answer = C.Component v; pmv = w })
+    (record { answer = reconstructedAnswer m c; pmv = unlessRefused m (stored p r s t (c .«new_pmv»)) p })
+unfolding isComponent componentOr
+accepted-stores zero v c r s t w p e f =
+    let g = f ∙ ap (λ (x : ReconstructedComponent). stored p r s t (x .«new_pmv»)) (ap (componentOr v) e) in
+    λ i. record { answer = e i; pmv = g i }
+accepted-stores (suc m) v c r s t w p e f = let z = ap isComponent e in let y : _≡_ {A = ℕ} 0 1 = cc in absurd (omega arith)
 
 -- the named promises of a decoded component, from the whole
-pub decoded-all : (d : DecodedComponent) (p : Pmv) (r : VectorIndex) (s : Direction) (t : Component) (z : ℤ) (m : MotionResidual) (k : ℕ) (h : Bool)
-    → d ≡ decoded ported p r s t z m k h
-    → (d ≡ decoded ported p r s t z m k h)
-    × ((reconstructedNumber (d .answer) ≡ componentRefusal k z m (predictor p r s t) h)
-    × (reconstructedValue (d .answer) ≡ valueUnless (reconstructedNumber (d .answer)) (componentOf k z m (predictor p r s t) h)))
-unfolding decoded ported
-decoded-all d p r s t z m k h e =
-    let n = componentRefusal k z m (predictor p r s t) h in
-    let v = componentOf k z m (predictor p r s t) h in
-    let a = component-all (d .answer) n v (ap (λ (x : DecodedComponent). x .answer) e ∙ keeping-answer (componentAnswer n v) p r s t) in
+pub decoded-all : (d : DecodedComponent) (p : Pmv) (r : VectorIndex) (s : Direction) (t : Component) (k : ℕ) (z : ℤ) (m : MotionResidual) (h : Bool)
+    → d ≡ decoded p r s t k z m h ported
+    → (d ≡ decoded p r s t k z m h ported)
+    × ((reconstructedNumber (d .answer) ≡ partRefusal p r s t k z m h ported)
+    × (reconstructedValue (d .answer) ≡ valueUnless (reconstructedNumber (d .answer)) (part p r s t k z m h)))
+unfolding decoded
+decoded-all d p r s t k z m h e =
+    let a = component-all (d .answer) (partRefusal p r s t k z m h ported) (part p r s t k z m h) (ap (λ (x : DecodedComponent). x .answer) e) in
     (e, (a .1 .0, a .1 .1))
 
--- ---- the vertical part after the horizontal one, by the arms of the code's matches
+-- ---- the vertical part after the horizontal one
 pub joined-refused : (h : ReconstructedComponent) (d x : DecodedComponent) (n : ℕ)
     → d ≡ x → d .answer ≡ C.Refused n → _≡_ {A = DecodedVector} (record { answer = Vec.Refused n; pmv = d .pmv }) (joined h x)
 joined-refused h d x n e f = rw (← e, f)
@@ -59,75 +85,109 @@ pub joined-given : (h : ReconstructedComponent) (d x : DecodedComponent) (v : Re
     → _≡_ {A = DecodedVector} (record { answer = Vec.Components (record { horizontal = h; vertical = v }); pmv = d .pmv }) (joined h x)
 joined-given h d x v e f = rw (← e, f)
 
-module _ (g : Reading) (mv : MotionVector) (r : VectorIndex) (s : Direction) (fh fv : ℕ) (m : MvFormat) (u : PictureStructure) (p : Pmv) where
-  pub after-refused : (d : DecodedComponent) (n : ℕ)
-      → d ≡ horizontalPart g mv r s fh fv m u p
-      → d .answer ≡ C.Refused n
-      → _≡_ {A = DecodedVector} (record { answer = Vec.Refused n; pmv = d .pmv }) (reconstructed g mv r s fh fv m u p)
-  unfolding reconstructed
-  after-refused d n e f = rw (← e, f)
-
-  pub after-given : (d : DecodedComponent) (h : ReconstructedComponent) (w : DecodedVector)
-      → d ≡ horizontalPart g mv r s fh fv m u p
-      → d .answer ≡ C.Component h
-      → w ≡ joined h (verticalPart g mv r s fh fv m u (d .pmv))
-      → w ≡ reconstructed g mv r s fh fv m u p
-  unfolding reconstructed
-  after-given d h w e f q = rw (← e, f) q
-
--- ---- number and value of a vector
 -- storing the horizontal predictor leaves the vertical one
 pub stored-other : (p : Pmv) (r : VectorIndex) (s : Direction) (v : ℤ) → predictor (stored p r s Horizontal v) r s Vertical ≡ predictor p r s Vertical
-stored-other p r s v = getD-set-other (p .values) (place r s Horizontal) (place r s Vertical) v (pos 0) (λ e. absurd (omega arith))
+stored-other p r s v = getD-set-other (p .values) (pmvIndex r s Horizontal) (pmvIndex r s Vertical) v (pos 0) (λ e. absurd (omega arith))
 
-joined-number : (h : ReconstructedComponent) (n : ℕ) (v : ReconstructedComponent) → vectorNumber (withVertical h (componentAnswer n v)) ≡ n
-joined-number h zero v = refl
-joined-number h (suc n) v = refl
+-- the whole, from the two answers
+whole : (n m : ℕ) (h v x : ReconstructedComponent) (p q b : Pmv)
+    → C.Component x ≡ reconstructedAnswer n h
+    → _≡_ {A = DecodedVector}
+    (joined x (record { answer = reconstructedAnswer m v; pmv = unlessRefused m b q }))
+    (record { answer = vectorAnswer (orElse n m) (record { horizontal = h; vertical = v }); pmv = unlessRefused n (unlessRefused m b q) p })
+unfolding isComponent componentOr
+whole zero zero h v x p q b e =
+    let g = ap (componentOr x) e in λ i. record { answer = Vec.Components (record { horizontal = g i; vertical = v }); pmv = b }
+whole zero (suc m) h v x p q b e = refl
+whole (suc n) m h v x p q b e = let z = ap isComponent e in let y : _≡_ {A = ℕ} 0 1 = cc in absurd (omega arith)
 
-joined-value : (h : ReconstructedComponent) (n : ℕ) (v : ReconstructedComponent)
-    → vectorValue (withVertical h (componentAnswer n v)) ≡ valueUnless n (record { horizontal = h; vertical = v })
-joined-value h zero v = refl
-joined-value h (suc n) v = refl
+first-refused : (k n m : ℕ) (h : ReconstructedComponent) (c : VectorComponents) (p q t : Pmv)
+    → C.Refused k ≡ reconstructedAnswer n h
+    → _≡_ {A = DecodedVector}
+    (record { answer = Vec.Refused k; pmv = unlessRefused n q p })
+    (record { answer = vectorAnswer (orElse n m) c; pmv = unlessRefused n t p })
+unfolding isComponent
+first-refused k zero m h c p q t e = let z = ap isComponent e in let y : _≡_ {A = ℕ} 0 1 = cc in absurd (omega arith)
+first-refused k (suc n) m h c p q t e = let g = ap reconstructedNumber e in λ i. record { answer = Vec.Refused (g i); pmv = p }
 
-module _ (mv : MotionVector) (r : VectorIndex) (s : Direction) (fh fv : ℕ) (m : MvFormat) (u : PictureStructure) (p : Pmv) where
-  abbrev hor : ReconstructedComponent
-  hor = vectorOf mv r s fh fv m u p .horizontal
+first-kept : (n : ℕ) (h x : ReconstructedComponent) (p q : Pmv) → C.Component x ≡ reconstructedAnswer n h → unlessRefused n q p ≡ q
+unfolding isComponent
+first-kept zero h x p q e = refl
+first-kept (suc n) h x p q e = let z = ap isComponent e in let y : _≡_ {A = ℕ} 0 1 = cc in absurd (omega arith)
 
-  abbrev ver : ReconstructedComponent
-  ver = vectorOf mv r s fh fv m u p .vertical
+module _ (p : Pmv) (mv : MotionVector) (r : VectorIndex) (s : Direction) (fh fv : ℕ) (m : MvFormat) (u : PictureStructure) where
+  abbrev horizontal : DecodedComponent
+  horizontal = decoded p r s Horizontal fh (mv .«motion_code_horiz») (mv .«motion_residual_horiz») (halves m u Horizontal) ported
 
-  abbrev after-n : ℕ → DecodedVector
-  after-n n =
-      afterHorizontal ported mv r s fh fv m u (keeping (componentAnswer n hor) p r s Horizontal .answer)
-      (keeping (componentAnswer n hor) p r s Horizontal .pmv)
+  abbrev vertical : Pmv → DecodedComponent
+  vertical q = decoded q r s Vertical fv (mv .«motion_code_vert») (mv .«motion_residual_vert») (halves m u Vertical) ported
 
-  vertical-answer : (z : ℤ)
-      → verticalPart ported mv r s fh fv m u (stored p r s Horizontal z) .answer
-      ≡ componentAnswer (verticalRefusal mv r s fh fv m u p) ver
-  unfolding decoded ported
-  vertical-answer z =
-      keeping-answer _ (stored p r s Horizontal z) r s Vertical
-      ∙ ap (λ (x : ℤ). componentAnswer (componentRefusal fv (mv .«motion_code_vert») (mv .«motion_residual_vert») x (halves m u Vertical)) (componentOf fv (mv .«motion_code_vert») (mv .«motion_residual_vert») x (halves m u Vertical)))
-      (stored-other p r s z)
+  abbrev hs : Pmv
+  hs = horizontalStored p mv r s fh fv m u
 
-  numbers : (n : ℕ) → vectorNumber (after-n n .answer) ≡ orElse n (verticalRefusal mv r s fh fv m u p)
-  numbers zero = rw (vertical-answer (hor .«new_pmv»)) (joined-number hor (verticalRefusal mv r s fh fv m u p) ver)
-  numbers (suc n) = refl
+  abbrev nh : ℕ
+  nh = horizontalRefusal p mv r s fh fv m u ported
 
-  values : (n : ℕ) → vectorValue (after-n n .answer) ≡ valueUnless (orElse n (verticalRefusal mv r s fh fv m u p)) (vectorOf mv r s fh fv m u p)
-  values zero = rw (vertical-answer (hor .«new_pmv»)) (joined-value hor (verticalRefusal mv r s fh fv m u p) ver)
-  values (suc n) = refl
+  abbrev nv : ℕ
+  nv = verticalRefusal p mv r s fh fv m u ported
+
+  abbrev cs : VectorComponents
+  cs = components p mv r s fh fv m u
+
+  -- the vertical part reads what was there before the horizontal one
+  vertical-is : _≡_ {A = DecodedComponent} (vertical hs)
+      (record { answer = reconstructedAnswer nv (cs .vertical); pmv = unlessRefused nv (bothStored p mv r s fh fv m u) hs })
+  unfolding decoded
+  vertical-is = ap from (stored-other p r s (cs .horizontal .«new_pmv»))
+    where
+      number : ℤ → ℕ
+      number x = componentRefusal fv (mv .«motion_code_vert») (mv .«motion_residual_vert») x (halves m u Vertical)
+
+      value : ℤ → ReconstructedComponent
+      value x = componentOf fv (mv .«motion_code_vert») (mv .«motion_residual_vert») x (halves m u Vertical)
+
+      from : ℤ → DecodedComponent
+      from x =
+          record {
+            answer = reconstructedAnswer (number x) (value x);
+            pmv = unlessRefused (number x) (stored hs r s Vertical (value x .«new_pmv»)) hs;
+          }
+
+  pub after-refused : (d : DecodedComponent) (n : ℕ)
+      → d ≡ horizontal
+      → d .answer ≡ C.Refused n
+      → _≡_ {A = DecodedVector} (record { answer = Vec.Refused n; pmv = d .pmv }) (reconstructed p mv r s fh fv m u ported)
+  unfolding decoded reconstructed
+  after-refused d n e f =
+      ap (λ (x : DecodedComponent). record { answer = Vec.Refused n; pmv = x .pmv }) e
+      ∙ first-refused n nh nv (cs .horizontal) cs p hs (unlessRefused nv (bothStored p mv r s fh fv m u) hs) (sym f ∙ ap (λ (x : DecodedComponent). x .answer) e)
+
+  pub after-given : (d : DecodedComponent) (h : ReconstructedComponent) (w : DecodedVector)
+      → d ≡ horizontal
+      → d .answer ≡ C.Component h
+      → w ≡ joined h (vertical (d .pmv))
+      → w ≡ reconstructed p mv r s fh fv m u ported
+  unfolding decoded reconstructed
+  after-given d h w e f g =
+      let y = sym f ∙ ap (λ (x : DecodedComponent). x .answer) e in
+      let k = ap (λ (x : DecodedComponent). x .pmv) e ∙ first-kept nh (cs .horizontal) h p hs y in
+      g
+      ∙ ap (λ (q : Pmv). joined h (vertical q)) k
+      ∙ ap (joined h) vertical-is
+      ∙ whole nh nv (cs .horizontal) (cs .vertical) h p hs (bothStored p mv r s fh fv m u) y
 
   -- the named promises of a vector, from the whole
   pub vector-all : (d : DecodedVector)
-      → d ≡ reconstructed ported mv r s fh fv m u p
-      → (d ≡ reconstructed ported mv r s fh fv m u p)
-      × ((vectorNumber (d .answer) ≡ vectorRefusal mv r s fh fv m u p)
-      × (vectorValue (d .answer) ≡ valueUnless (vectorNumber (d .answer)) (vectorOf mv r s fh fv m u p)))
-  unfolding reconstructed decoded ported
-  vector-all d e =
-      let n = numbers (horizontalRefusal mv r s fh fv m u p) in
-      let v = values (horizontalRefusal mv r s fh fv m u p) in
-      let a = ap (λ (x : DecodedVector). vectorNumber (x .answer)) e ∙ n in
-      let b = ap (λ (x : DecodedVector). vectorValue (x .answer)) e ∙ v in
-      (e, (a, b ∙ ap (λ (k : ℕ). valueUnless k (vectorOf mv r s fh fv m u p)) (sym a)))
+      → d ≡ reconstructed p mv r s fh fv m u ported
+      → (d ≡ reconstructed p mv r s fh fv m u ported)
+      × ((vectorNumber (d .answer) ≡ vectorRefusal p mv r s fh fv m u ported)
+      × (vectorValue (d .answer) ≡ valueUnless (vectorNumber (d .answer)) cs))
+  unfolding reconstructed
+  vector-all d e = (e, at (d .answer) (orElse nh nv) (ap (λ (x : DecodedVector). x .answer) e))
+    where
+      parts : (n : ℕ) → (vectorNumber (vectorAnswer n cs) ≡ n) × (vectorValue (vectorAnswer n cs) ≡ valueUnless (vectorNumber (vectorAnswer n cs)) cs)
+      parts zero = (refl, refl)
+      parts (suc n) = (refl, refl)
+
+      at : (a : ReconstructedVector) (n : ℕ) → a ≡ vectorAnswer n cs → (vectorNumber a ≡ n) × (vectorValue a ≡ valueUnless (vectorNumber a) cs)
+      at a n q = rw q (parts n)

@@ -45,9 +45,9 @@ rangeValue (Found.Range v) = some v
 rangeValue (Found.Refused n) = none
 
 -- a component
-abbrev pub componentAnswer : ℕ → ReconstructedComponent → Reconstructed
-componentAnswer zero c = C.Component c
-componentAnswer (suc n) c = C.Refused (suc n)
+abbrev pub reconstructedAnswer : ℕ → ReconstructedComponent → Reconstructed
+reconstructedAnswer zero c = C.Component c
+reconstructedAnswer (suc n) c = C.Refused (suc n)
 
 abbrev pub reconstructedNumber : Reconstructed → ℕ
 reconstructedNumber (C.Component c) = 0
@@ -58,6 +58,10 @@ reconstructedValue (C.Component c) = some c
 reconstructedValue (C.Refused n) = none
 
 -- a vector
+abbrev pub vectorAnswer : ℕ → VectorComponents → ReconstructedVector
+vectorAnswer zero c = Vec.Components c
+vectorAnswer (suc n) c = Vec.Refused (suc n)
+
 abbrev pub vectorNumber : ReconstructedVector → ℕ
 vectorNumber (Vec.Components c) = 0
 vectorNumber (Vec.Refused n) = n

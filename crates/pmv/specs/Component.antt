@@ -1,5 +1,6 @@
 -- ISO/IEC 13818-2, 7.6.3.1, second part: from delta and the predictor PMV[r][s][t] to the vector's component and the new predictor. Delta is
--- a parameter here: whoever reads it from a stream in another way has the same component of it.
+-- a parameter here: whoever reads it from a stream in another way has the same component of it. proofs/Facts.antt has what follows: an
+-- accepted vector is in range and equals the prediction plus delta but for a multiple of range, and when 6 is given.
 use mathlib.Core.Bool.{Bool, true, false, not, _&&_, cond}
 use Prim.Native.Nat.{ℕ, _*_}
 use lib.IntN.{ℤ, pos, negℤ, _+ℤ_, _-ℤ_, _*ℤ_}
@@ -48,13 +49,13 @@ wrapped b v = lowered b (raised b v)
 abbrev pub vectorOf : VectorRange → Bool → ℤ → ℤ → ℤ
 vectorOf b halved prior d = wrapped b (prediction halved prior +ℤ d)
 
--- the new PMV[r][s][t]: vector'[r][s][t], or twice it
+-- the new PMV[r][s][t]: vector'[r][s][t], or twice it, which may leave low..high
 abbrev pub newPredictor : Bool → ℤ → ℤ
 newPredictor halved v = cond halved (v *ℤ pos 2) v
 
 -- what delta gives: total, whatever is refused
-unfoldable pub moved : VectorRange → Bool → ℤ → ℤ → ReconstructedComponent
-moved b halved prior d =
+unfoldable pub fromDelta : VectorRange → Bool → ℤ → ℤ → ReconstructedComponent
+fromDelta b halved prior d =
     record {
       «vector_prime» = vectorOf b halved prior d;
       «new_pmv» = newPredictor halved (vectorOf b halved prior d);
@@ -62,9 +63,9 @@ moved b halved prior d =
       range = b .range;
     }
 
--- 5, then 6
-unfoldable pub movedRefusal : VectorRange → Bool → ℤ → ℤ → ℕ
-movedRefusal b halved prior d =
+-- 5, then 6: 7.6.3.1 demands both ranges of a stream, and refuses nothing
+unfoldable pub fromDeltaRefusal : VectorRange → Bool → ℤ → ℤ → ℕ
+fromDeltaRefusal b halved prior d =
     orElse (cause (not (inRange b d)) deltaOutside)
     (cause (not (inRange b (vectorOf b halved prior d))) vectorOutside)
 
@@ -74,10 +75,10 @@ abbrev pub deltaOf : ℕ → ℤ → MotionResidual → ℤ
 deltaOf fCode code residual = delta (scale fCode) code (residualValue residual)
 
 abbrev pub componentOf : ℕ → ℤ → MotionResidual → ℤ → Bool → ReconstructedComponent
-componentOf fCode code residual prior halved = moved (rangeOf (scale fCode)) halved prior (deltaOf fCode code residual)
+componentOf fCode code residual prior halved = fromDelta (rangeOf (scale fCode)) halved prior (deltaOf fCode code residual)
 
 -- 1, 2, 3 or 4, 5, 6
 abbrev pub componentRefusal : ℕ → ℤ → MotionResidual → ℤ → Bool → ℕ
 componentRefusal fCode code residual prior halved =
     orElse (deltaRefusal fCode code residual)
-    (movedRefusal (rangeOf (scale fCode)) halved prior (deltaOf fCode code residual))
+    (fromDeltaRefusal (rangeOf (scale fCode)) halved prior (deltaOf fCode code residual))

@@ -35,14 +35,16 @@ abbrev pub residualIn : MotionResidual → Bool
 residualIn Absent = false
 residualIn (Present n) = true
 
--- the residual's value, 0 for none
+-- the residual's value, 0 for none: any byte, where the standard's has r_size bits
 abbrev pub residualValue : MotionResidual → ℕ
 residualValue Absent = 0
 residualValue (Present n) = n
 
+-- 6.3.10: 1 to 9 are the f_codes of vectors, and 15 stands for none
 unfoldable pub fCodeFits : ℕ → Bool
 fCodeFits fCode = leb 1 fCode && leb fCode 9
 
+-- the codes of Table B-10, which the standard does not test for
 unfoldable pub codeFits : ℤ → Bool
 codeFits code = leZ (negsuc 15) code && leZ code (pos 16)
 
@@ -55,9 +57,11 @@ residualRefusal plain residual =
 abbrev pub fCodeRefusal : ℕ → ℕ
 fCodeRefusal fCode = cause (not (fCodeFits fCode)) fCodeOutside
 
--- 1, 2, and 3 or 4
+-- 2, and 3 or 4; f is a parameter
+unfoldable pub codeRefusal : ℕ → ℤ → MotionResidual → ℕ
+codeRefusal f code residual =
+    orElse (cause (not (codeFits code)) codeOutside) (residualRefusal (isPlain f code) residual)
+
+-- 1, and those
 unfoldable pub deltaRefusal : ℕ → ℤ → MotionResidual → ℕ
-deltaRefusal fCode code residual =
-    orElse (fCodeRefusal fCode)
-    (orElse (cause (not (codeFits code)) codeOutside)
-    (residualRefusal (isPlain (scale fCode) code) residual))
+deltaRefusal fCode code residual = orElse (fCodeRefusal fCode) (codeRefusal (scale fCode) code residual)

@@ -1,6 +1,6 @@
--- The kinds that cross to C and to lists as numbers: document 01 counts them from 0 in the order of the Rust's enums, and any other number
--- has no meaning. `XNumber` is the number of a kind, `XFrom` the kind of a number, if there is one; proofs/Numbers.antt shows that each
--- undoes the other.
+-- The kinds that this layer's calls choose by. Document 01 counts them from 0 in the order of the Rust's enums where they cross to C, and
+-- any other number has no meaning. `XNumber` is the number of a kind, `XFrom` the kind of a number, if there is one; proofs/Numbers.antt
+-- shows that each undoes the other. Component and PictureCodingType cross in no C call, and have no `XFrom`.
 use mathlib.Core.Bool.{Bool, true, false, cond}
 use Prim.Native.Nat.{ℕ}
 use lib.Dec.{eqb}
@@ -77,7 +77,7 @@ formatFrom n =
     (cond (eqb n 1) (OptionMvFormat.Some MvFormat.Frame)
     OptionMvFormat.None)
 
--- picture_structure, whose codes in the stream are other numbers
+-- picture_structure: these are not the stream's codes
 abbrev pub structureNumber : PictureStructure → ℕ
 structureNumber PictureStructure.TopField = 0
 structureNumber PictureStructure.BottomField = 1
@@ -90,7 +90,7 @@ structureFrom n =
     (cond (eqb n 2) (OptionPictureStructure.Some PictureStructure.Frame)
     OptionPictureStructure.None))
 
--- frame_motion_type or field_motion_type, whose codes in the stream are other numbers
+-- frame_motion_type or field_motion_type: these are not the stream's codes
 abbrev pub typeNumber : PredictionType → ℕ
 typeNumber PredictionType.FieldBased = 0
 typeNumber PredictionType.FrameBased = 1
@@ -105,14 +105,14 @@ typeFrom n =
     (cond (eqb n 3) (OptionPredictionType.Some PredictionType.DualPrime)
     OptionPredictionType.None)))
 
--- picture_coding_type, whose codes in the stream are other numbers
+-- picture_coding_type: these are not the stream's codes
 abbrev pub codingNumber : PictureCodingType → ℕ
 codingNumber PictureCodingType.Intra = 0
 codingNumber PictureCodingType.Predictive = 1
 codingNumber PictureCodingType.Bidirectional = 2
 codingNumber PictureCodingType.DcIntra = 3
 
--- chroma_format, whose codes in the stream are other numbers
+-- chroma_format: these are not the stream's codes
 abbrev pub chromaNumber : ChromaFormat → ℕ
 chromaNumber ChromaFormat.Yuv420 = 0
 chromaNumber ChromaFormat.Yuv422 = 1

@@ -12,16 +12,16 @@ use Rattle.pmv.specs.declared.kinds.Component.the-variants.{Horizontal, 
 use Rattle.pmv.specs.declared.predictors.Pmv.{Pmv}
 
 -- where PMV[r][s][t] lies among the eight
-abbrev pub place : VectorIndex → Direction → Component → ℕ
-place r s t = indexNumber r * 4 + directionNumber s * 2 + componentNumber t
+abbrev pub pmvIndex : VectorIndex → Direction → Component → ℕ
+pmvIndex r s t = indexNumber r * 4 + directionNumber s * 2 + componentNumber t
 
 -- PMV[r][s][t]
 abbrev pub predictor : Pmv → VectorIndex → Direction → Component → ℤ
-predictor pmv r s t = getD (pmv .values) (place r s t) (pos 0)
+predictor pmv r s t = getD (pmv .values) (pmvIndex r s t) (pos 0)
 
 -- PMV[r][s][t] = value
 abbrev pub stored : Pmv → VectorIndex → Direction → Component → ℤ → Pmv
-stored pmv r s t value = record { values = set (pmv .values) (place r s t) value }
+stored pmv r s t value = record { values = set (pmv .values) (pmvIndex r s t) value }
 
 -- 7.6.3.4: all eight are zero
 abbrev pub zeroed : Pmv

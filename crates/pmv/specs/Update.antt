@@ -11,8 +11,8 @@ use Rattle.pmv.specs.Answers.{updateAnswer}
 use Rattle.pmv.specs.declared.kinds.Direction.the-variants.{Forward, Backward}
 use Rattle.pmv.specs.declared.kinds.PredictionType.{PredictionType}
 use Rattle.pmv.specs.declared.kinds.PredictionType.the-variants.{FieldBased, FrameBased, SixteenByEight, DualPrime}
-use Rattle.pmv.specs.declared.kinds.OptionPredictionType.{OptionPredictionType}
-use Rattle.pmv.specs.declared.kinds.OptionPredictionType.the-variants.{None, Some}
+use Rattle.pmv.specs.declared.kinds.MotionType.{MotionType}
+use Rattle.pmv.specs.declared.kinds.MotionType.the-variants.{Absent, Present}
 use Rattle.pmv.specs.declared.kinds.PictureCodingType.{PictureCodingType}
 use Rattle.pmv.specs.declared.predictors.Pmv.{Pmv}
 use Rattle.pmv.specs.declared.update.PmvUpdateContext.{PmvUpdateContext}
@@ -68,22 +68,23 @@ abbrev pub intraOutcome : Bool → PmvUpdateOutcome
 intraOutcome true = IntraConcealmentCopyForwardFirst
 intraOutcome false = IntraResetAll
 
--- a macroblock that is not intra: 8; 9 or 10; 11 or 12
-abbrev pub interRefusal : Bool → OptionPredictionType → Bool → Bool → ℕ
-interRefusal frame None f b = typeMissing
-interRefusal frame (Some t) f b = rowRefusal (rowsOf frame t) f b
+-- a macroblock that is not intra: 8; 9 or 10; 11 or 12. The tables' footnote assumes frame-based or field-based motion where the type is
+-- absent; that it is refused is document 01's
+abbrev pub interRefusal : Bool → MotionType → Bool → Bool → ℕ
+interRefusal frame Absent f b = typeMissing
+interRefusal frame (Present t) f b = rowRefusal (rowsOf frame t) f b
 
-abbrev pub interOutcome : Bool → OptionPredictionType → Bool → Bool → PmvUpdateOutcome
-interOutcome frame None f b = NoUpdate
-interOutcome frame (Some t) f b = rowOutcome (rowsOf frame t) f b
+abbrev pub interOutcome : Bool → MotionType → Bool → Bool → PmvUpdateOutcome
+interOutcome frame Absent f b = NoUpdate
+interOutcome frame (Present t) f b = rowOutcome (rowsOf frame t) f b
 
 -- frame picture, type, forward, backward, intra: 7, then the others
-unfoldable pub decidedRefusal : Bool → OptionPredictionType → Bool → Bool → Bool → ℕ
+unfoldable pub decidedRefusal : Bool → MotionType → Bool → Bool → Bool → ℕ
 decidedRefusal frame type f b true = cause (f || b) intraWithMotion
 decidedRefusal frame type f b false = interRefusal frame type f b
 
 -- and concealment
-unfoldable pub decidedOutcome : Bool → OptionPredictionType → Bool → Bool → Bool → Bool → PmvUpdateOutcome
+unfoldable pub decidedOutcome : Bool → MotionType → Bool → Bool → Bool → Bool → PmvUpdateOutcome
 decidedOutcome frame type f b true c = intraOutcome c
 decidedOutcome frame type f b false c = interOutcome frame type f b
 
@@ -129,9 +130,9 @@ updated pmv x =
 -- ---- 7.7.5.1
 
 -- spatial_temporal_weight_class == 4 in a P or B picture
-abbrev pub isSpatialOnly : PictureCodingType → ℕ → Bool
-isSpatialOnly type class = eqb class 4 && isInterPicture type
+abbrev pub resetsPredictors : PictureCodingType → ℕ → Bool
+resetsPredictors type class = eqb class 4 && isInterPicture type
 
 unfoldable pub spatialTemporalReset : Pmv → PictureCodingType → ℕ → SpatialTemporalReset
 spatialTemporalReset pmv type class =
-    record { applied = isSpatialOnly type class; pmv = cond (isSpatialOnly type class) zeroed pmv }
+    record { applied = resetsPredictors type class; pmv = cond (resetsPredictors type class) zeroed pmv }

@@ -8,9 +8,9 @@ ghost use Prim.Native.Nat.{ℕ, _+_, _*_, _≤_, _<_};
 ghost use lib.IntN.{ℤ, pos, natAbs, _+ℤ_, _-ℤ_};
 ghost use Rattle.laws.proofs.Bounded.{Within};
 ghost use Rattle.forming_predictions.specs.SampleAnswers.{valueUnless};
-ghost use Rattle.pmv.specs.Delta.{scale, isPlain, magnitude, withSign, delta, residualIn, residualValue, fCodeFits, codeFits, residualRefusal, fCodeRefusal, deltaRefusal};
-ghost use Rattle.pmv.specs.Component.{rangeOf, inRange, halves, prediction, raised, lowered, wrapped, vectorOf, newPredictor, moved, movedRefusal, deltaOf, componentOf, componentRefusal};
-ghost use Rattle.pmv.specs.Answers.{deltaAnswer, deltaNumber, deltaValue, rangeAnswer, rangeNumber, rangeValue, componentAnswer, reconstructedNumber, reconstructedValue};
+ghost use Rattle.pmv.specs.Delta.{scale, isPlain, magnitude, withSign, delta, residualIn, residualValue, fCodeFits, codeFits, residualRefusal, codeRefusal, fCodeRefusal, deltaRefusal};
+ghost use Rattle.pmv.specs.Component.{rangeOf, inRange, halves, prediction, raised, lowered, wrapped, vectorOf, newPredictor, fromDelta, fromDeltaRefusal, deltaOf, componentOf, componentRefusal};
+ghost use Rattle.pmv.specs.Answers.{deltaAnswer, deltaNumber, deltaValue, rangeAnswer, rangeNumber, rangeValue, reconstructedAnswer, reconstructedNumber, reconstructedValue};
 ghost use Rattle.pmv.specs.inner.Bounds.{Small};
 
 /// Refusal: f_code outside 1..9.
@@ -113,16 +113,22 @@ fn residual_refusal(plain: bool, motion_residual: MotionResidual) -> u8
     }
 }
 
+fn code_refusal(motion_code: i32, motion_residual: MotionResidual, f: u32) -> u8
+    ensures { λ r. ⌜ r ≡ codeRefusal f «motion_code» «motion_residual» ⌝ }
+{
+    if !code_fits(motion_code) {
+        return CODE_OUTSIDE;
+    }
+    residual_refusal(is_plain(f, motion_code), motion_residual)
+}
+
 fn delta_refusal(motion_code: i32, motion_residual: MotionResidual, f_code: u8) -> u8
     ensures { λ r. ⌜ r ≡ deltaRefusal «f_code» «motion_code» «motion_residual» ⌝ }
 {
     if !f_code_fits(f_code) {
         return F_CODE_OUTSIDE;
     }
-    if !code_fits(motion_code) {
-        return CODE_OUTSIDE;
-    }
-    residual_refusal(is_plain(scale_of(f_code), motion_code), motion_residual)
+    code_refusal(motion_code, motion_residual, scale_of(f_code))
 }
 
 /// Abs(motion_code).
@@ -283,9 +289,9 @@ fn next_predictor(vector: i32, halved: bool) -> i32
 }
 
 /// A component from its delta.
-fn moved_by(b: VectorRange, halved: bool, prior_pmv: i32, delta: i32) -> Reconstructed
+fn from_delta(b: VectorRange, halved: bool, prior_pmv: i32, delta: i32) -> Reconstructed
     requires { ⌜ Small b ⌝ }
-    ensures { λ r. ⌜ r ≡ componentAnswer (movedRefusal b halved «prior_pmv» delta) (moved b halved «prior_pmv» delta) ⌝ }
+    ensures { λ r. ⌜ r ≡ reconstructedAnswer (fromDeltaRefusal b halved «prior_pmv» delta) (fromDelta b halved «prior_pmv» delta) ⌝ }
 {
     if !in_range(b, delta as i64) {
         return Reconstructed::Refused(DELTA_OUTSIDE);
@@ -313,14 +319,14 @@ pub fn reconstruct_component(
     picture: PictureStructure,
     t: Component,
 ) -> Reconstructed
-    ensures answer { λ r. ⌜ r ≡ componentAnswer (componentRefusal «f_code» «motion_code» «motion_residual» «prior_pmv» (halves «mv_format» picture t)) (componentOf «f_code» «motion_code» «motion_residual» «prior_pmv» (halves «mv_format» picture t)) ⌝ }
+    ensures answer { λ r. ⌜ r ≡ reconstructedAnswer (componentRefusal «f_code» «motion_code» «motion_residual» «prior_pmv» (halves «mv_format» picture t)) (componentOf «f_code» «motion_code» «motion_residual» «prior_pmv» (halves «mv_format» picture t)) ⌝ }
     ensures number { λ r. ⌜ reconstructedNumber r ≡ componentRefusal «f_code» «motion_code» «motion_residual» «prior_pmv» (halves «mv_format» picture t) ⌝ }
     ensures value { λ r. ⌜ reconstructedValue r ≡ valueUnless (reconstructedNumber r) (componentOf «f_code» «motion_code» «motion_residual» «prior_pmv» (halves «mv_format» picture t)) ⌝ }
 {
     let halved = halves_prediction(mv_format, picture, t);
     match compute_delta(motion_code, motion_residual, f_code) {
         ComputedDelta::Refused(number) => Reconstructed::Refused(number),
-        ComputedDelta::Delta(delta) => moved_by(
+        ComputedDelta::Delta(delta) => from_delta(
             range_of(scale_of(f_code)),
             halved,
             prior_pmv,

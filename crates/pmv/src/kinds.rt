@@ -67,10 +67,16 @@ pub enum PredictionType {
     DualPrime,
 }
 
-/// A motion type, where there is one: a macroblock may have none, and a number may mean none.
+/// A PredictionType, where a number means one.
 pub enum OptionPredictionType {
     None,
     Some(PredictionType),
+}
+
+/// `frame_motion_type` or `field_motion_type`, where a macroblock has one.
+pub enum MotionType {
+    Absent,
+    Present(PredictionType),
 }
 
 /// `picture_coding_type`.

@@ -4,7 +4,7 @@ use crate::kinds::Direction;
 use crate::kinds::VectorIndex;
 ghost use mathlib.Core.Path.{_≡_};
 ghost use Prim.Native.Nat.{ℕ, _<_};
-ghost use Rattle.pmv.specs.Predictors.{place, predictor, stored, zeroed, firstCopied};
+ghost use Rattle.pmv.specs.Predictors.{pmvIndex, predictor, stored, zeroed, firstCopied};
 
 /// The eight predictors in half samples: PMV\[r\]\[s\]\[t\] is at 4r + 2s + t.
 pub struct Pmv {
@@ -12,7 +12,7 @@ pub struct Pmv {
 }
 
 fn place_of(r: VectorIndex, s: Direction, t: Component) -> usize
-    ensures { λ k. ⌜ (k ≡ place r s t) × (k < 8) ⌝ }
+    ensures { λ k. ⌜ (k ≡ pmvIndex r s t) × (k < 8) ⌝ }
 {
     r.index() * 4 + s.index() * 2 + t.index()
 }

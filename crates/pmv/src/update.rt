@@ -1,20 +1,17 @@
 //! ISO/IEC 13818-2, 7.6.3.3: the predictors after a macroblock's vectors, by Tables 7-10 and 7-11; and the reset of 7.7.5.1.
 use crate::kinds::Direction;
-use crate::kinds::OptionPredictionType;
+use crate::kinds::MotionType;
 use crate::kinds::PictureCodingType;
 use crate::kinds::PictureStructure;
 use crate::kinds::PredictionType;
 use crate::predictors::Pmv;
 ghost use mathlib.Core.Path.{_≡_};
-ghost use mathlib.Core.Bool.{_||_};
 ghost use Prim.Native.Nat.{ℕ, _≤_};
-ghost use Rattle.combine_predictions.specs.Refusals.{cause};
 ghost use Rattle.pmv.specs.Kinds.{typeNumber, flagNumber};
-ghost use Rattle.pmv.specs.Refusals.{intraWithMotion};
-ghost use Rattle.pmv.specs.Update.{intraOutcome, updateRefusal, updateOutcome, outcomeNumber, after, updated, spatialTemporalReset};
+ghost use Rattle.pmv.specs.Update.{updateRefusal, updateOutcome, outcomeNumber, after, updated, spatialTemporalReset};
 ghost use Rattle.forming_predictions.specs.SampleAnswers.{valueUnless};
 ghost use Rattle.pmv.specs.Answers.{updateAnswer, updateNumber, updateValue};
-ghost use Rattle.pmv.specs.inner.Rows.{rowAnswer, tableAnswer};
+ghost use Rattle.pmv.specs.inner.Rows.{rowAnswer, tableAnswer, untypedRefusal, untypedOutcome};
 
 /// Refusal: an intra macroblock with a motion flag.
 pub const INTRA_WITH_MOTION: u8 = 7;
@@ -32,7 +29,7 @@ pub const NONE_ROW_FLAGS: u8 = 12;
 /// What Tables 7-10 and 7-11 choose by.
 pub struct PmvUpdateContext {
     pub picture_structure: PictureStructure,
-    pub prediction_type: OptionPredictionType,
+    pub prediction_type: MotionType,
     pub macroblock_motion_forward: bool,
     pub macroblock_motion_backward: bool,
     pub macroblock_intra: bool,
@@ -243,14 +240,17 @@ fn look_up(frame: bool, t: PredictionType, forward: bool, backward: bool, intra:
     row_answer(row_at(frame, t, forward, backward, intra))
 }
 
-/// An intra macroblock: all types have the same rows.
-fn intra_answer(frame: bool, forward: bool, backward: bool, concealment: bool) -> Updated
-    ensures { λ r. ⌜ r ≡ updateAnswer (cause (forward || backward) intraWithMotion) (intraOutcome concealment) ⌝ }
+/// Without a motion type, which an intra macroblock has not.
+fn untyped_answer(forward: bool, backward: bool, intra: bool) -> Updated
+    ensures { λ r. ⌜ r ≡ updateAnswer (untypedRefusal forward backward intra) (untypedOutcome intra) ⌝ }
 {
-    if concealment & !(forward | backward) {
-        return Updated::Outcome(PmvUpdateOutcome::IntraConcealmentCopyForwardFirst);
+    if !intra {
+        return Updated::Refused(TYPE_MISSING);
     }
-    look_up(frame, PredictionType::FieldBased, forward, backward, true)
+    if forward | backward {
+        return Updated::Refused(INTRA_WITH_MOTION);
+    }
+    Updated::Outcome(PmvUpdateOutcome::IntraResetAll)
 }
 
 /// Which row of the tables the context asks for.
@@ -258,16 +258,16 @@ fn decide(ctx: PmvUpdateContext) -> Updated
     ensures { λ r. ⌜ r ≡ updateAnswer (updateRefusal ctx) (updateOutcome ctx) ⌝ }
 {
     let picture = ctx.picture_structure;
-    let frame = picture.is_frame();
     let forward = ctx.macroblock_motion_forward;
     let backward = ctx.macroblock_motion_backward;
-    if ctx.macroblock_intra {
-        return intra_answer(frame, forward, backward, ctx.concealment_motion_vectors);
+    let intra = ctx.macroblock_intra;
+    if (ctx.concealment_motion_vectors & intra) & !(forward | backward) {
+        return Updated::Outcome(PmvUpdateOutcome::IntraConcealmentCopyForwardFirst);
     }
     let prediction_type = ctx.prediction_type;
     match prediction_type {
-        OptionPredictionType::None => Updated::Refused(TYPE_MISSING),
-        OptionPredictionType::Some(t) => look_up(frame, t, forward, backward, false),
+        MotionType::Absent => untyped_answer(forward, backward, intra),
+        MotionType::Present(t) => look_up(picture.is_frame(), t, forward, backward, intra),
     }
 }
 

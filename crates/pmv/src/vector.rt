@@ -12,9 +12,9 @@ use crate::predictors::Pmv;
 ghost use mathlib.Core.Path.{_≡_};
 ghost use mathlib.Core.Bool.{false};
 ghost use Rattle.forming_predictions.specs.SampleAnswers.{valueUnless};
-ghost use Rattle.pmv.specs.Component.{halves, componentOf, componentRefusal};
-ghost use Rattle.pmv.specs.Predictors.{predictor};
-ghost use Rattle.pmv.specs.Vector.{ported, decoded, joined, reconstructed, vectorRefusal, vectorOf};
+ghost use Rattle.pmv.specs.Component.{halves};
+ghost use Rattle.pmv.specs.Vector.{ported, partRefusal, part, decoded, reconstructed, vectorRefusal, components};
+ghost use Rattle.pmv.specs.inner.Steps.{joined};
 ghost use Rattle.pmv.specs.Answers.{reconstructedNumber, reconstructedValue, vectorNumber, vectorValue};
 ghost use Rattle.pmv.specs.declared.kinds.Component.the-variants.{Vertical};
 
@@ -62,7 +62,7 @@ fn decode(
     mv_format: MvFormat,
     picture: PictureStructure,
 ) -> DecodedComponent
-    ensures { λ d. ⌜ d ≡ decoded ported pmv r s t «motion_code» «motion_residual» «f_code» (halves «mv_format» picture t) ⌝ }
+    ensures { λ d. ⌜ d ≡ decoded pmv r s t «f_code» «motion_code» «motion_residual» (halves «mv_format» picture t) ported ⌝ }
 {
     let prior = pmv.get(r, s, t);
     match reconstruct_component(
@@ -98,9 +98,9 @@ pub fn decoded_motion_vector(
     motion_residual: MotionResidual,
     f_code: u8,
 ) -> DecodedComponent
-    ensures decoding { λ d. ⌜ d ≡ decoded ported pmv r s t «motion_code» «motion_residual» «f_code» false ⌝ }
-    ensures number { λ d. ⌜ reconstructedNumber (d .answer) ≡ componentRefusal «f_code» «motion_code» «motion_residual» (predictor pmv r s t) false ⌝ }
-    ensures value { λ d. ⌜ reconstructedValue (d .answer) ≡ valueUnless (reconstructedNumber (d .answer)) (componentOf «f_code» «motion_code» «motion_residual» (predictor pmv r s t) false) ⌝ }
+    ensures decoding { λ d. ⌜ d ≡ decoded pmv r s t «f_code» «motion_code» «motion_residual» false ported ⌝ }
+    ensures number { λ d. ⌜ reconstructedNumber (d .answer) ≡ partRefusal pmv r s t «f_code» «motion_code» «motion_residual» false ported ⌝ }
+    ensures value { λ d. ⌜ reconstructedValue (d .answer) ≡ valueUnless (reconstructedNumber (d .answer)) (part pmv r s t «f_code» «motion_code» «motion_residual» false) ⌝ }
 {
     decode(
         pmv,
@@ -127,7 +127,7 @@ fn decode_vertical(
     mv_format: MvFormat,
     picture: PictureStructure,
 ) -> DecodedVector
-    ensures { λ d. ⌜ d ≡ joined horizontal (decoded ported pmv r s Vertical «motion_code» «motion_residual» «f_code» (halves «mv_format» picture Vertical)) ⌝ }
+    ensures { λ d. ⌜ d ≡ joined horizontal (decoded pmv r s Vertical «f_code» «motion_code» «motion_residual» (halves «mv_format» picture Vertical) ported) ⌝ }
 {
     let vertical = decode(
         pmv,
@@ -168,9 +168,9 @@ pub fn reconstructed_motion_vector(
     mv_format: MvFormat,
     picture: PictureStructure,
 ) -> DecodedVector
-    ensures reconstruction { λ d. ⌜ d ≡ reconstructed ported mv r s «f_code_horiz» «f_code_vert» «mv_format» picture pmv ⌝ }
-    ensures number { λ d. ⌜ vectorNumber (d .answer) ≡ vectorRefusal mv r s «f_code_horiz» «f_code_vert» «mv_format» picture pmv ⌝ }
-    ensures value { λ d. ⌜ vectorValue (d .answer) ≡ valueUnless (vectorNumber (d .answer)) (vectorOf mv r s «f_code_horiz» «f_code_vert» «mv_format» picture pmv) ⌝ }
+    ensures reconstruction { λ d. ⌜ d ≡ reconstructed pmv mv r s «f_code_horiz» «f_code_vert» «mv_format» picture ported ⌝ }
+    ensures number { λ d. ⌜ vectorNumber (d .answer) ≡ vectorRefusal pmv mv r s «f_code_horiz» «f_code_vert» «mv_format» picture ported ⌝ }
+    ensures value { λ d. ⌜ vectorValue (d .answer) ≡ valueUnless (vectorNumber (d .answer)) (components pmv mv r s «f_code_horiz» «f_code_vert» «mv_format» picture) ⌝ }
 {
     let residual = mv.motion_residual_horiz;
     let horizontal = decode(

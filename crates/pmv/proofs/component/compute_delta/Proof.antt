@@ -38,11 +38,12 @@ scale-of-requires c κs =
 delta-of-requires : tie.Need-delta-of-requires
 delta-of-requires c κs =
     let s = c .before .before .before .before in
-    rw (toZ-ofZ (s .fits .motion-code))
-    (accepted-code (s .args .f-code) (s .args .motion-code) (s .args .motion-residual) (accepted (c .before .before)),
-    c .before .residual-value .ensures .1,
-    c .scale-of .ensures .1,
-    c .scale-of .ensures .2)
+    rw (toZ-ofZ (s .fits .motion-code)) (
+      accepted-code (s .args .f-code) (s .args .motion-code) (s .args .motion-residual) (accepted (c .before .before)),
+      c .before .residual-value .ensures .1,
+      c .scale-of .ensures .1,
+      c .scale-of .ensures .2,
+    )
 
 returns-2 : tie.Need-returns-2
 returns-2 c =

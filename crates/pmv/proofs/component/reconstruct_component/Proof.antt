@@ -1,49 +1,83 @@
+-- `reconstruct_component` meets its contract.
+-- Assumes nothing.
+use mathlib.Core.Path.{_≡_, sym, ap, _∙_}
+use Prim.Native.Nat.{ℕ}
+use lib.IntN.{ℤ}
+use mir.Syntax.{w32}
+use mir.Val.{SFits}
+use mir.Facts.{toZ-ofZ}
+use Rattle.pmv.specs.Delta.{scale, deltaRefusal}
+use Rattle.pmv.specs.Component.{rangeOf, halves, fromDelta, fromDeltaRefusal, deltaOf, componentOf, componentRefusal}
+use Rattle.pmv.specs.Answers.{deltaAnswer, reconstructedAnswer}
+use Rattle.pmv.specs.declared.component.ComputedDelta.{ComputedDelta}
+use Rattle.pmv.specs.declared.component.ComputedDelta.the-variants as D
+use Rattle.pmv.proofs.Deltas.{accepted-f-code}
+use Rattle.pmv.proofs.Answers.{component-all, component-no, delta-refused, delta-given}
 use borrow.Author.Needs.{needs}
 use Rattle.pmv.proofs.component.reconstruct_component.Statement.{statement}
 use Rattle.pmv.proofs.component.reconstruct_component.Tie as tie
-use Rattle.pmv.proofs.component.reconstruct_component.Reads as reads
-use Rattle.pmv.proofs.component.reconstruct_component.Lts as lts
-use Rattle.pmv.proofs.component.compute_delta.Reads as compute-delta-reads
-use Rattle.pmv.proofs.component.halves_prediction.Reads as halves-prediction-reads
-use Rattle.pmv.proofs.component.moved_by.Reads as moved-by-reads
-use Rattle.pmv.proofs.component.range_of.Reads as range-of-reads
-use Rattle.pmv.proofs.component.scale_of.Reads as scale-of-reads
 
--- src/component.rt:320:9
+delta-is : (c : tie.After-compute-delta)
+    → let a = c .before .before .args in
+    c .compute-delta .result ≡ deltaAnswer (deltaRefusal (a .f-code) (a .motion-code) (a .motion-residual)) (deltaOf (a .f-code) (a .motion-code) (a .motion-residual))
+delta-is c = rw (toZ-ofZ (c .before .before .fits .motion-code)) at (c .compute-delta .ensures .0)
+
+-- what the arm with a delta learns
+given : (c : tie.After-delta)
+    → let a = c .before .before .before .before .args in
+    (deltaRefusal (a .f-code) (a .motion-code) (a .motion-residual) ≡ 0)
+    × (c .delta .given .0 .0 ≡ deltaOf (a .f-code) (a .motion-code) (a .motion-residual))
+given c =
+    let a = c .before .before .before .before .args in
+    delta-given (deltaRefusal (a .f-code) (a .motion-code) (a .motion-residual)) _ _ (sym (c .delta .given .1) ∙ delta-is (c .before .before))
+
+delta-fits : (c : tie.After-known-told2) → SFits w32 (c .before .delta .given .0 .0)
+delta-fits c = search needs
+
 halves-prediction-requires : tie.Need-halves-prediction-requires
 halves-prediction-requires c κs = search needs
 
--- src/component.rt:321:11
 compute-delta-requires : tie.Need-compute-delta-requires
 compute-delta-requires c κs = search needs
 
--- src/component.rt:322:32
 enum-known-number : tie.Need-enum-known-number
 enum-known-number c = search needs
 
--- src/component.rt:323:30
 enum-known-delta : tie.Need-enum-known-delta
 enum-known-delta c = search needs
 
--- src/component.rt:324:22
 scale-of-requires : tie.Need-scale-of-requires
-scale-of-requires c κs = ?
+scale-of-requires c κs =
+    let a = c .before .before .before .before .before .args in
+    accepted-f-code (a .f-code) (a .motion-code) (a .motion-residual) (given (c .before) .0)
 
--- src/component.rt:324:13
 range-of-requires : tie.Need-range-of-requires
-range-of-requires c κs = search needs
+range-of-requires c κs = c .scale-of .ensures .2
 
--- src/component.rt:323:40
-moved-by-requires : tie.Need-moved-by-requires
-moved-by-requires c κs = search needs
+from-delta-requires : tie.Need-from-delta-requires
+from-delta-requires c κs = c .range-of .ensures .1
 
--- src/component.rt:307:1
 returns : tie.Need-returns
-returns c = ?
+returns c =
+    let b = c .before .before .before in
+    let a = b .before .before .args in
+    let h = halves (a .mv-format) (a .picture) (a .t) in
+    let d = deltaOf (a .f-code) (a .motion-code) (a .motion-residual) in
+    let q = delta-refused (deltaRefusal (a .f-code) (a .motion-code) (a .motion-residual)) d _ (sym (c .before .number .given .1) ∙ delta-is b) in
+    component-all _ (componentRefusal (a .f-code) (a .motion-code) (a .motion-residual) (a .prior-pmv) h) (componentOf (a .f-code) (a .motion-code) (a .motion-residual) (a .prior-pmv) h)
+    (component-no _ _ (fromDeltaRefusal (rangeOf (scale (a .f-code))) h (a .prior-pmv) d) _ (q .0) (q .1))
 
--- src/component.rt:307:1
 returns-2 : tie.Need-returns-2
-returns-2 c = ?
+returns-2 c =
+    let k = c .before .before .before .before in
+    let s = k .before .before .before .before in
+    let a = s .args in
+    let h = halves (a .mv-format) (a .picture) (a .t) in
+    let g = given k in
+    let b = c .before .range-of .ensures .0 ∙ ap rangeOf (c .before .before .scale-of .ensures .0) in
+    let e = rw (toZ-ofZ (s .fits .prior-pmv), toZ-ofZ (delta-fits (c .before .before .before)), g .1, b, k .before .before .before .halves-prediction .ensures) at (c .from-delta .ensures) in
+    component-all _ (componentRefusal (a .f-code) (a .motion-code) (a .motion-residual) (a .prior-pmv) h) (componentOf (a .f-code) (a .motion-code) (a .motion-residual) (a .prior-pmv) h)
+    (rw (g .0) e)
 
 pub reconstruct-component-spec : {M : Type 1} → statement M
 reconstruct-component-spec =
@@ -55,6 +89,6 @@ reconstruct-component-spec =
     enum-known-delta
     scale-of-requires
     range-of-requires
-    moved-by-requires
+    from-delta-requires
     returns
     returns-2)

@@ -4,13 +4,13 @@ use mathlib.Core.Path.{_≡_, sym, ap, _∙_}
 use mathlib.Core.Bool.{Bool, _&&_}
 use Prim.Native.Nat.{ℕ}
 use lib.Dec.{eqb}
-use Rattle.pmv.specs.Update.{isSpatialOnly, spatialTemporalReset}
+use Rattle.pmv.specs.Update.{resetsPredictors, spatialTemporalReset}
 use borrow.Author.Needs.{needs}
 use Rattle.pmv.proofs.update.spatial_temporal_reset_applied.Statement.{statement}
 use Rattle.pmv.proofs.update.spatial_temporal_reset_applied.Tie as tie
 
 test : (c : tie.After-is-inter)
-    → isSpatialOnly (c .before .args .picture-coding-type) (c .before .args .spatial-temporal-weight-class)
+    → resetsPredictors (c .before .args .picture-coding-type) (c .before .args .spatial-temporal-weight-class)
     ≡ (eqb (c .before .args .spatial-temporal-weight-class) 4 && c .is-inter .result)
 test c = ap (λ (t : Bool). eqb (c .before .args .spatial-temporal-weight-class) 4 && t) (sym (c .is-inter .ensures))
 

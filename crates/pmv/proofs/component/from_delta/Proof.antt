@@ -1,4 +1,4 @@
--- `moved_by` meets its contract.
+-- `from_delta` meets its contract.
 -- Assumes nothing.
 use mathlib.Core.Path.{_≡_, refl, sym, ap, _∙_}
 use mathlib.Core.Bool.{true, false}
@@ -10,13 +10,13 @@ use mir.Facts.{toZ-ofZ, sfits-widen}
 use Rattle.laws.proofs.Tests.{not-taken, not-left}
 use Rattle.laws.proofs.Bits.{back, widened}
 use Rattle.laws.proofs.Bounded.{Within, within-fits}
-use Rattle.pmv.specs.Component.{inRange, vectorOf, newPredictor, moved, movedRefusal}
-use Rattle.pmv.specs.Answers.{componentAnswer}
+use Rattle.pmv.specs.Component.{inRange, vectorOf, newPredictor, fromDelta, fromDeltaRefusal}
+use Rattle.pmv.specs.Answers.{reconstructedAnswer}
 use Rattle.pmv.specs.declared.component.Reconstructed.the-variants.{Component}
-use Rattle.pmv.proofs.Ranges.{range-fits, in-range-within, predictor-fits, moved-5, moved-6, moved-accepted, moved-is}
+use Rattle.pmv.proofs.Ranges.{range-fits, in-range-within, predictor-fits, from-delta-5, from-delta-6, from-delta-accepted, from-delta-is}
 use borrow.Author.Needs.{needs}
-use Rattle.pmv.proofs.component.moved_by.Statement.{statement}
-use Rattle.pmv.proofs.component.moved_by.Tie as tie
+use Rattle.pmv.proofs.component.from_delta.Statement.{statement}
+use Rattle.pmv.proofs.component.from_delta.Tie as tie
 
 -- the two tests, in the definition's terms
 delta-test : (c : tie.After-in-range) → c .in-range .result ≡ inRange (c .before .args .b) (c .before .args .delta)
@@ -59,7 +59,7 @@ returns : tie.Need-returns
 returns c =
     let s = c .before .before in
     let a = s .args in
-    moved-5 (a .b) (a .halved) (a .prior-pmv) (a .delta) (sym (delta-test (c .before)) ∙ not-taken _ (c .if1 .taken))
+    from-delta-5 (a .b) (a .halved) (a .prior-pmv) (a .delta) (sym (delta-test (c .before)) ∙ not-taken _ (c .if1 .taken))
 
 wrap-requires : tie.Need-wrap-requires
 wrap-requires c κs = search needs
@@ -71,7 +71,7 @@ returns-2 : tie.Need-returns-2
 returns-2 c =
     let a = c .before .before .before .before .before .args in
     let e = sym (vector-test (c .before)) ∙ not-taken _ (c .if2 .taken) in
-    moved-6 (a .b) (a .halved) (a .prior-pmv) (a .delta) (delta-in (c .before .before .before)) e
+    from-delta-6 (a .b) (a .halved) (a .prior-pmv) (a .delta) (delta-in (c .before .before .before)) e
 
 cast-vector : tie.Need-cast-vector
 cast-vector c = rw (vector-is (c .before .before)) (within-fits (vector-within c) (omega arith))
@@ -90,11 +90,11 @@ returns-3 c =
     let v = vector-is (e .before .before) in
     let n = rw (v, toZ-ofZ f) at (c .before .next-predictor .ensures) in
     let k = back w32 (c .before .next-predictor .result) (c .before .next-predictor .ok) ∙ n in
-    rw (v, toZ-ofZ f, toZ-ofZ (s .fits .delta), toZ-ofZ (range-fits (s .pre)), moved-accepted (a .b) (a .halved) (a .prior-pmv) (a .delta) (delta-in (e .before .before .before)) (vector-in e))
-    (ap Component (moved-is (a .b) (a .halved) (a .prior-pmv) (a .delta) _ _ refl k))
+    rw (v, toZ-ofZ f, toZ-ofZ (s .fits .delta), toZ-ofZ (range-fits (s .pre)), from-delta-accepted (a .b) (a .halved) (a .prior-pmv) (a .delta) (delta-in (e .before .before .before)) (vector-in e))
+    (ap Component (from-delta-is (a .b) (a .halved) (a .prior-pmv) (a .delta) _ _ refl k))
 
-pub moved-by-spec : {M : Type 1} → statement M
-moved-by-spec =
+pub from-delta-spec : {M : Type 1} → statement M
+from-delta-spec =
     tie.close
     (tie.spec
     cast-in-range
