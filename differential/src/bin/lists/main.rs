@@ -4,6 +4,7 @@
 mod combine_predictions;
 mod forming_predictions;
 mod list;
+mod pmv;
 
 use std::env;
 use std::fs;
@@ -14,7 +15,11 @@ use std::process::ExitCode;
 use list::List;
 
 /// A maker for each layer. A new layer adds its module above and a line here.
-const MAKERS: &[fn() -> List] = &[combine_predictions::list, forming_predictions::list];
+const MAKERS: &[fn() -> List] = &[
+    combine_predictions::list,
+    forming_predictions::list,
+    pmv::list,
+];
 
 const USAGE: &str = "\
 usage: lists [--check] [--root DIR]

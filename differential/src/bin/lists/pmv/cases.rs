@@ -1,0 +1,644 @@
+//! The lines of the vector list: each asks the original, and document 01 for the number 2.
+
+use std::fmt::{self, Display};
+use std::ops::RangeInclusive;
+
+use oracle::Error;
+use oracle::macroblock_modes::{MvFormat, PredictionType};
+use oracle::motion_vector::MotionVector;
+use oracle::picture_header::{PictureCodingType, PictureStructure};
+use oracle::pmv::{
+    Component, Direction, Pmv, PmvUpdateContext, ReconstructedComponent, VectorIndex,
+    apply_spatial_temporal_reset, compute_delta, decode_motion_vector, reconstruct_component,
+    reconstruct_motion_vector, scale_chroma, update_predictors, vector_range,
+};
+use oracle::sequence_extension::ChromaFormat;
+
+use crate::list::ACCEPTED;
+
+/// Document 01's codes.
+pub const CODES: RangeInclusive<i32> = -16..=16;
+/// Document 01's number for any other code, which the original takes.
+pub const CODE_OUTSIDE: u8 = 2;
+
+/// The original's refusals, with document 01's numbers.
+const REFUSALS: [(&str, u8); 12] = [
+    ("compute_delta: f_code outside the §6.3.11 1..=9 range", 1),
+    ("vector_range: f_code outside the §6.3.11 1..=9 range", 1),
+    (
+        "compute_delta: motion_residual present when §6.2.5.2.1 forbids it (f == 1 or motion_code == 0)",
+        3,
+    ),
+    (
+        "compute_delta: motion_residual absent when §6.2.5.2.1 requires it (f != 1 && motion_code != 0)",
+        4,
+    ),
+    (
+        "reconstruct_component: delta outside [low, high] range (§7.6.3.2)",
+        5,
+    ),
+    (
+        "reconstruct_component: vector' still outside [low, high] after wrap (§7.6.3.1)",
+        6,
+    ),
+    (
+        "update_predictors: intra macroblock with a motion flag set (excluded by Tables B-2/B-3/B-4)",
+        7,
+    ),
+    (
+        "update_predictors: non-intra macroblock with absent motion_type (§6.3.17.1 forbids)",
+        8,
+    ),
+    (
+        "update_predictors: Frame-based motion type in a field picture (Table 7-11 has no such row)",
+        9,
+    ),
+    (
+        "update_predictors: 16x8 MC motion type in a frame picture (Table 7-10 has no such row)",
+        10,
+    ),
+    (
+        "update_predictors: Dual-Prime row only accepts (fwd=1, bwd=0) per Tables 7-10/7-11",
+        11,
+    ),
+    (
+        "update_predictors: Field-based/16x8 row with both motion flags zero is not listed in Tables 7-10/7-11",
+        12,
+    ),
+];
+
+/// The text of the test that document 01 says never fails.
+const NEVER: &str = "reconstruct_component: new PMV outside expected range";
+
+/// Document 01's number for a refusal of the original. Stops at one that has none.
+fn refusal(error: Error) -> u8 {
+    let Error::InvalidBitstream(text) = error else {
+        panic!("the original refuses as a parser does: {error:?}");
+    };
+    assert_ne!(text, NEVER, "the test that never fails has failed");
+    match REFUSALS.iter().find(|(known, _)| *known == text) {
+        Some((_, number)) => *number,
+        None => panic!("document 01 has no number for: {text}"),
+    }
+}
+
+/// Numbers as the lists write them.
+struct Numbers<'a>(&'a [i32]);
+
+impl Display for Numbers<'_> {
+    fn fmt(&self, f: &mut fmt::Formatter<'_>) -> fmt::Result {
+        for (place, number) in self.0.iter().enumerate() {
+            if place != 0 {
+                f.write_str(" ")?;
+            }
+            write!(f, "{number}")?;
+        }
+        Ok(())
+    }
+}
+
+/// The eight predictors, in the order of their places.
+fn eight(pmv: &Pmv) -> Numbers<'_> {
+    Numbers(pmv.values.as_flattened().as_flattened())
+}
+
+/// The values of a call, or the refusal's number.
+pub type Answer<const N: usize> = Result<[i32; N], u8>;
+
+/// 0, or the refusal's number.
+pub fn number<const N: usize>(answer: &Answer<N>) -> u8 {
+    answer.err().unwrap_or(ACCEPTED)
+}
+
+/// ANSWER, and the values behind it.
+struct Answered<'a, const N: usize>(&'a Answer<N>);
+
+impl<const N: usize> Display for Answered<'_, N> {
+    fn fmt(&self, f: &mut fmt::Formatter<'_>) -> fmt::Result {
+        let values = self.0.unwrap_or([0; N]);
+        write!(f, "{} {}", number(self.0), Numbers(&values))
+    }
+}
+
+fn values(component: ReconstructedComponent) -> [i32; 4] {
+    let ReconstructedComponent {
+        vector_prime,
+        new_pmv,
+        delta,
+        range,
+    } = component;
+    [vector_prime, new_pmv, delta, range]
+}
+
+/// What is coded of a component, and the f_code that it is read by.
+#[derive(Clone, Copy)]
+pub struct Coded {
+    pub code: i32,
+    pub residual: Option<u8>,
+    pub f_code: u8,
+}
+
+impl Coded {
+    /// Document 01's refusal 2: after 1, and before all that the original refuses else.
+    fn within_codes(self) -> Result<(), u8> {
+        if vector_range(self.f_code).is_ok() && !CODES.contains(&self.code) {
+            return Err(CODE_OUTSIDE);
+        }
+        Ok(())
+    }
+}
+
+/// Without the f_code.
+impl Display for Coded {
+    fn fmt(&self, f: &mut fmt::Formatter<'_>) -> fmt::Result {
+        let present = u8::from(self.residual.is_some());
+        let residual = self.residual.unwrap_or(0);
+        write!(f, "{} {present} {residual}", self.code)
+    }
+}
+
+/// A line of kind 1.
+pub struct Delta {
+    coded: Coded,
+    pub answer: Answer<1>,
+}
+
+impl Delta {
+    pub fn ask(coded: Coded) -> Self {
+        let residual = coded.residual.map(u32::from);
+        let ask = || compute_delta(coded.code, residual, coded.f_code).map_err(refusal);
+        let answer = coded.within_codes().and_then(|()| ask());
+        Self {
+            coded,
+            answer: answer.map(|delta| [delta]),
+        }
+    }
+}
+
+impl Display for Delta {
+    fn fmt(&self, f: &mut fmt::Formatter<'_>) -> fmt::Result {
+        let Self { coded, answer } = self;
+        write!(f, "1 {coded} {} {}", coded.f_code, Answered(answer))
+    }
+}
+
+/// A line of kind 2.
+pub struct Limits {
+    f_code: u8,
+    pub answer: Answer<3>,
+}
+
+impl Limits {
+    pub fn ask(f_code: u8) -> Self {
+        let answer = vector_range(f_code).map_err(refusal);
+        Self {
+            f_code,
+            answer: answer.map(|(low, high, range)| [low, high, range]),
+        }
+    }
+}
+
+impl Display for Limits {
+    fn fmt(&self, f: &mut fmt::Formatter<'_>) -> fmt::Result {
+        write!(f, "2 {} {}", self.f_code, Answered(&self.answer))
+    }
+}
+
+/// What the halving depends on beside the component.
+#[derive(Clone, Copy, PartialEq)]
+pub struct Mode {
+    pub format: MvFormat,
+    pub structure: PictureStructure,
+}
+
+impl Display for Mode {
+    fn fmt(&self, f: &mut fmt::Formatter<'_>) -> fmt::Result {
+        write!(f, "{} {}", self.format as u8, self.structure as u8)
+    }
+}
+
+fn component(
+    coded: Coded,
+    prior: i32,
+    mode: Mode,
+    t: Component,
+) -> Result<ReconstructedComponent, u8> {
+    coded.within_codes()?;
+    let Coded {
+        code,
+        residual,
+        f_code,
+    } = coded;
+    let Mode { format, structure } = mode;
+    let residual = residual.map(u32::from);
+    reconstruct_component(code, residual, f_code, prior, format, structure, t).map_err(refusal)
+}
+
+/// A line of kind 3.
+pub struct Reconstruction {
+    coded: Coded,
+    prior: i32,
+    mode: Mode,
+    t: Component,
+    pub answer: Answer<4>,
+}
+
+impl Reconstruction {
+    pub fn ask(coded: Coded, prior: i32, mode: Mode, t: Component) -> Self {
+        Self {
+            coded,
+            prior,
+            mode,
+            t,
+            answer: component(coded, prior, mode, t).map(values),
+        }
+    }
+}
+
+impl Display for Reconstruction {
+    fn fmt(&self, f: &mut fmt::Formatter<'_>) -> fmt::Result {
+        write!(
+            f,
+            "3 {} {} {} {} {} {}",
+            self.coded,
+            self.coded.f_code,
+            self.prior,
+            self.mode,
+            self.t as u8,
+            Answered(&self.answer),
+        )
+    }
+}
+
+/// Which predictor.
+#[derive(Clone, Copy, PartialEq)]
+pub struct Place {
+    pub r: VectorIndex,
+    pub s: Direction,
+    pub t: Component,
+}
+
+impl Display for Place {
+    fn fmt(&self, f: &mut fmt::Formatter<'_>) -> fmt::Result {
+        write!(f, "{} {} {}", self.r as u8, self.s as u8, self.t as u8)
+    }
+}
+
+/// A line of kind 4.
+pub struct Decoding {
+    before: Pmv,
+    place: Place,
+    coded: Coded,
+    pub answer: Answer<4>,
+    pub after: Pmv,
+}
+
+impl Decoding {
+    pub fn ask(before: Pmv, place: Place, coded: Coded) -> Self {
+        let Place { r, s, t } = place;
+        let residual = coded.residual.map(u32::from);
+        let mut after = before;
+        let mut ask = || {
+            decode_motion_vector(&mut after, r, s, t, coded.code, residual, coded.f_code)
+                .map_err(refusal)
+        };
+        let answer = coded.within_codes().and_then(|()| ask());
+        Self {
+            before,
+            place,
+            coded,
+            answer: answer.map(values),
+            after,
+        }
+    }
+}
+
+impl Display for Decoding {
+    fn fmt(&self, f: &mut fmt::Formatter<'_>) -> fmt::Result {
+        write!(
+            f,
+            "4 {} {} {} {} {} {}",
+            eight(&self.before),
+            self.place,
+            self.coded,
+            self.coded.f_code,
+            Answered(&self.answer),
+            eight(&self.after),
+        )
+    }
+}
+
+/// A vector to reconstruct, and which.
+#[derive(Clone, Copy)]
+pub struct Vector {
+    pub r: VectorIndex,
+    pub s: Direction,
+    pub horizontal: Coded,
+    pub vertical: Coded,
+    pub mode: Mode,
+}
+
+type Components = Result<[ReconstructedComponent; 2], u8>;
+
+impl Vector {
+    /// Both components, the predictors updated: the original's call. The codes are document 01's.
+    fn reconstruct(self, pmv: &mut Pmv) -> Components {
+        let Self { r, s, mode, .. } = self;
+        let [horizontal, vertical] = [self.horizontal, self.vertical];
+        let byte = |code| i8::try_from(code).expect("document 01's codes are bytes");
+        let parsed = MotionVector {
+            motion_code_horiz: byte(horizontal.code),
+            motion_residual_horiz: horizontal.residual,
+            dmvector_horiz: None,
+            motion_code_vert: byte(vertical.code),
+            motion_residual_vert: vertical.residual,
+            dmvector_vert: None,
+            bit_position_after: 0,
+        };
+        let [f_horizontal, f_vertical] = [horizontal.f_code, vertical.f_code];
+        let Mode { format, structure } = mode;
+        reconstruct_motion_vector(
+            pmv,
+            &parsed,
+            r,
+            s,
+            f_horizontal,
+            f_vertical,
+            format,
+            structure,
+        )
+        .map_err(refusal)
+    }
+
+    /// The same for all codes, as document 01 composes it of the components.
+    fn compose(self, pmv: &mut Pmv) -> Components {
+        let horizontal = self.store(pmv, self.horizontal, Component::Horizontal)?;
+        let vertical = self.store(pmv, self.vertical, Component::Vertical)?;
+        Ok([horizontal, vertical])
+    }
+
+    fn store(
+        self,
+        pmv: &mut Pmv,
+        coded: Coded,
+        t: Component,
+    ) -> Result<ReconstructedComponent, u8> {
+        let Self { r, s, mode, .. } = self;
+        let part = component(coded, pmv.get(r, s, t), mode, t)?;
+        pmv.set(r, s, t, part.new_pmv);
+        Ok(part)
+    }
+}
+
+/// A line of kind 5.
+pub struct VectorReconstruction {
+    before: Pmv,
+    vector: Vector,
+    pub answer: Answer<8>,
+    pub after: Pmv,
+}
+
+impl VectorReconstruction {
+    pub fn ask(before: Pmv, vector: Vector) -> Self {
+        let mut after = before;
+        let mut answer = vector.compose(&mut after);
+        let [horizontal, vertical] = [vector.horizontal, vector.vertical];
+        if CODES.contains(&horizontal.code) && CODES.contains(&vertical.code) {
+            let composed = (answer, after);
+            after = before;
+            answer = vector.reconstruct(&mut after);
+            assert_eq!(composed, (answer, after), "document 01 composes otherwise");
+        }
+        let values = answer.map(|[horizontal, vertical]| {
+            let [a, b, c, d] = values(horizontal);
+            let [e, f, g, h] = values(vertical);
+            [a, b, c, d, e, f, g, h]
+        });
+        Self {
+            before,
+            vector,
+            answer: values,
+            after,
+        }
+    }
+}
+
+impl Display for VectorReconstruction {
+    fn fmt(&self, f: &mut fmt::Formatter<'_>) -> fmt::Result {
+        let Vector {
+            r,
+            s,
+            horizontal,
+            vertical,
+            mode,
+        } = self.vector;
+        write!(
+            f,
+            "5 {} {} {} {horizontal} {vertical} {} {} {mode} {} {}",
+            eight(&self.before),
+            r as u8,
+            s as u8,
+            horizontal.f_code,
+            vertical.f_code,
+            Answered(&self.answer),
+            eight(&self.after),
+        )
+    }
+}
+
+/// A line of kind 6.
+pub struct ChromaScaling {
+    luma: (i32, i32),
+    format: ChromaFormat,
+    pub chroma: (i32, i32),
+}
+
+impl ChromaScaling {
+    pub fn ask(horizontal: i32, vertical: i32, format: ChromaFormat) -> Self {
+        let luma = (horizontal, vertical);
+        let scaled = scale_chroma(horizontal, vertical, format);
+        assert_eq!(
+            (scaled.luma_horiz, scaled.luma_vert),
+            luma,
+            "the line says so"
+        );
+        Self {
+            luma,
+            format,
+            chroma: (scaled.chroma_horiz, scaled.chroma_vert),
+        }
+    }
+}
+
+impl Display for ChromaScaling {
+    fn fmt(&self, f: &mut fmt::Formatter<'_>) -> fmt::Result {
+        let (luma_horizontal, luma_vertical) = self.luma;
+        let (horizontal, vertical) = self.chroma;
+        write!(
+            f,
+            "6 {luma_horizontal} {luma_vertical} {} {horizontal} {vertical}",
+            self.format as u8,
+        )
+    }
+}
+
+/// A line of kind 7.
+pub struct Update {
+    before: Pmv,
+    context: PmvUpdateContext,
+    pub answer: Answer<1>,
+    pub after: Pmv,
+}
+
+impl Update {
+    pub fn ask(before: Pmv, context: PmvUpdateContext) -> Self {
+        let mut after = before;
+        let answer = update_predictors(&mut after, context).map_err(refusal);
+        Self {
+            before,
+            context,
+            answer: answer.map(|outcome| [outcome as i32]),
+            after,
+        }
+    }
+}
+
+impl Display for Update {
+    fn fmt(&self, f: &mut fmt::Formatter<'_>) -> fmt::Result {
+        let PmvUpdateContext {
+            picture_structure,
+            prediction_type,
+            macroblock_motion_forward,
+            macroblock_motion_backward,
+            macroblock_intra,
+            concealment_motion_vectors,
+        } = self.context;
+        write!(
+            f,
+            "7 {} {} {} {} {} {} {} {} {} {}",
+            eight(&self.before),
+            picture_structure as u8,
+            u8::from(prediction_type.is_some()),
+            prediction_type.map_or(0, |kind: PredictionType| kind as u8),
+            u8::from(macroblock_motion_forward),
+            u8::from(macroblock_motion_backward),
+            u8::from(macroblock_intra),
+            u8::from(concealment_motion_vectors),
+            Answered(&self.answer),
+            eight(&self.after),
+        )
+    }
+}
+
+/// A line of kind 8.
+pub struct SpatialReset {
+    before: Pmv,
+    coding_type: PictureCodingType,
+    class: u8,
+    pub applied: bool,
+    pub after: Pmv,
+}
+
+impl SpatialReset {
+    pub fn ask(before: Pmv, coding_type: PictureCodingType, class: u8) -> Self {
+        let mut after = before;
+        let applied = apply_spatial_temporal_reset(&mut after, coding_type, class);
+        Self {
+            before,
+            coding_type,
+            class,
+            applied,
+            after,
+        }
+    }
+}
+
+impl Display for SpatialReset {
+    fn fmt(&self, f: &mut fmt::Formatter<'_>) -> fmt::Result {
+        write!(
+            f,
+            "8 {} {} {} {} {}",
+            eight(&self.before),
+            self.coding_type as u8,
+            self.class,
+            u8::from(self.applied),
+            eight(&self.after),
+        )
+    }
+}
+
+/// A line of kind 9.
+pub struct GetAndSet {
+    before: Pmv,
+    place: Place,
+    value: i32,
+    pub got: i32,
+    pub after: Pmv,
+}
+
+impl GetAndSet {
+    pub fn ask(before: Pmv, place: Place, value: i32) -> Self {
+        let Place { r, s, t } = place;
+        let got = before.get(r, s, t);
+        let mut after = before;
+        after.set(r, s, t, value);
+        Self {
+            before,
+            place,
+            value,
+            got,
+            after,
+        }
+    }
+}
+
+impl Display for GetAndSet {
+    fn fmt(&self, f: &mut fmt::Formatter<'_>) -> fmt::Result {
+        write!(
+            f,
+            "9 {} {} {} {} {}",
+            eight(&self.before),
+            self.place,
+            self.value,
+            self.got,
+            eight(&self.after),
+        )
+    }
+}
+
+/// A line of kind 10.
+pub struct Reset {
+    before: Pmv,
+    pub after: Pmv,
+}
+
+impl Reset {
+    pub fn ask(before: Pmv) -> Self {
+        let mut after = before;
+        after.reset();
+        Self { before, after }
+    }
+}
+
+impl Display for Reset {
+    fn fmt(&self, f: &mut fmt::Formatter<'_>) -> fmt::Result {
+        write!(f, "10 {} {}", eight(&self.before), eight(&self.after))
+    }
+}
+
+/// A line of kind 11.
+pub struct Fresh {
+    pub after: Pmv,
+}
+
+impl Fresh {
+    pub fn ask() -> Self {
+        Self { after: Pmv::new() }
+    }
+}
+
+impl Display for Fresh {
+    fn fmt(&self, f: &mut fmt::Formatter<'_>) -> fmt::Result {
+        write!(f, "11 {}", eight(&self.after))
+    }
+}
