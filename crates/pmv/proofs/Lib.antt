@@ -5,5 +5,6 @@ pub mod Deltas
 pub mod Ranges
 pub mod Rows
 pub mod Vectors
+pub mod Facts
 pub mod Chrominance
 pub mod Cases
