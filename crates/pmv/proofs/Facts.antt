@@ -156,6 +156,7 @@ module _ (f : ℕ) where
             let k = mul-p m 2 in
             let l = mul-n m 2 in
             let j = add-z (m *ℤ pos 2) (pos 1) in
-            let q = doubled t v r in
-            (yes-le (negℤ n *ℤ pos 2) (newPredictor t v) (omega (arith, neg-p n, neg-n n, q .0)),
-            yes-le (newPredictor t v) (m *ℤ pos 2 +ℤ pos 1) (omega (arith, sub-z n (pos 1), q .1)))
+            let q = doubled t v r in (
+              yes-le (negℤ n *ℤ pos 2) (newPredictor t v) (omega (arith, neg-p n, neg-n n, q .0)),
+              yes-le (newPredictor t v) (m *ℤ pos 2 +ℤ pos 1) (omega (arith, sub-z n (pos 1), q .1)),
+            )

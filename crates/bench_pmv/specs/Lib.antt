@@ -1,0 +1,2 @@
+-- What the benchmark's entry points speak of, beside the definitions of pmv.
+pub mod Inputs
