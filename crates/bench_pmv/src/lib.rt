@@ -12,7 +12,6 @@ use pmv::update::Updated;
 use pmv::vector::MotionVector;
 use pmv::vector::ReconstructedVector;
 ghost use mathlib.Core.Path.{_≡_};
-ghost use Prim.Native.Nat.{ℕ};
 ghost use Rattle.pmv.specs.Update.{updated};
 ghost use Rattle.pmv.specs.Vector.{ported, reconstructed};
 ghost use Rattle.bench_pmv.specs.Inputs.{structureOf, typeOf, formatOf, indexOf, directionOf, residualOf, contextOf, vectorOf, pmvOf, updateCode, vectorCode, componentsOr};

@@ -3,12 +3,12 @@
 use mathlib.Core.Path.{_≡_, refl}
 use Prim.Native.Nat.{_+_, _*_, _≤_, _<_}
 use native.Mathlib.Omega.{arith}
-use lib.IntN.{ℤ, pos, negsuc, natAbs}
+use lib.IntN.{ℤ, pos, negsuc}
 use lib.Signed.{quotZ}
 use mir.Syntax.{w32}
 use mir.Val.{SFits}
 use Rattle.laws.proofs.Signed.{zp, zn, quot-p, quot-n}
-use Rattle.laws.proofs.Bounded.{Within, within-quot, within-fits, fits-within}
+use Rattle.laws.proofs.Bounded.{within-quot, within-fits, fits-within}
 use Rattle.pmv.specs.Chroma.{truncHalf}
 
 -- the code's division gives it

@@ -1,19 +1,19 @@
 -- f_code, motion_code and delta: how large they are, and when each of 1 to 4 is given.
 -- Assumes nothing.
 use mathlib.Core.Path.{_≡_, refl, sym, _∙_}
-use mathlib.Core.Bool.{Bool, true, false, not, _&&_, _||_, cond}
-use Prim.Native.Nat.{ℕ, suc, _+_, _-_, _*_, _^_, _≤_}
+use mathlib.Core.Bool.{Bool, true, false, not, _&&_, _||_}
+use Prim.Native.Nat.{ℕ, suc, _-_, _*_, _^_, _≤_}
 use native.Mathlib.Nat.{mul-le-mul, pow-le-pow-right}
 use native.Mathlib.Omega.{arith}
 use lib.Dec.{eqb, leb}
-use lib.IntN.{ℤ, pos, negsuc, negℤ, natAbs}
-use lib.Signed.{ltZ, leZ}
+use lib.IntN.{ℤ, pos, negsuc, natAbs}
+use lib.Signed.{leZ}
 use lib.Pow.{pow-pos}
 use borrow.Author.Tests.{eqb-false, ne-eqb}
 use mir.Syntax.{w32}
 use mir.Val.{SFits, ofZ}
-use Rattle.laws.proofs.Signed.{le-yes, abs-z}
-use Rattle.laws.proofs.Bounded.{Within, within-fits, within-neg}
+use Rattle.laws.proofs.Signed.{le-yes}
+use Rattle.laws.proofs.Bounded.{Within}
 use Rattle.laws.proofs.Tests.{both, range}
 use Rattle.combine_predictions.specs.Refusals.{cause}
 use Rattle.forming_predictions.proofs.Refusals.{none-first, none-second, no-cause}
@@ -76,19 +76,6 @@ not-plain f z e = let h = eqb-false (natAbs z) 0 (or-none (eqb f 1) (eqb (natAbs
 
 pub product-le : (m f : ℕ) → m ≤ 16 → f ≤ 256 → (m - 1) * f ≤ 3840
 product-le m f h k = let p : m - 1 ≤ 15 = omega arith in mul-le-mul p k
-
-sign-within : {n : ℕ} (z : ℤ) (m : ℕ) → m ≤ n → Within n (withSign z m)
-sign-within {n} z m h = at (ltZ z (pos 0))
-  where
-    plus : Within n (pos m)
-    plus = record { above = omega arith; below = omega arith }
-
-    at : (t : Bool) → Within n (cond t (negℤ (pos m)) (pos m))
-    at true = within-neg plus
-    at false = plus
-
-pub sign-fits : (z : ℤ) (m : ℕ) → m ≤ 4096 → SFits w32 (withSign z m)
-sign-fits z m h = within-fits (sign-within z m h) (omega arith)
 
 -- ---- when each number is given
 module _ (f : ℕ) (z : ℤ) (r : MotionResidual) where

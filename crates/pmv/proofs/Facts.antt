@@ -1,7 +1,7 @@
 -- What the definition of a component comes to, for every f: for its reader, and for the crates above.
 -- Assumes nothing.
-use mathlib.Core.Path.{_≡_, refl, sym, _∙_}
-use mathlib.Core.Bool.{Bool, true, false, not, _&&_, cond}
+use mathlib.Core.Path.{_≡_, refl}
+use mathlib.Core.Bool.{Bool, true, false, not, cond}
 use Prim.Native.Nat.{ℕ, _+_, _*_, _≤_, _<_}
 use native.Mathlib.Omega.{arith}
 use lib.IntN.{ℤ, pos, negℤ, _+ℤ_, _-ℤ_, _*ℤ_}
@@ -11,7 +11,7 @@ use Rattle.laws.proofs.Tests.{both}
 use Rattle.combine_predictions.specs.Refusals.{cause, orElse}
 use Rattle.forming_predictions.proofs.Refusals.{none-first, none-second, no-cause}
 use Rattle.pmv.specs.Refusals.{deltaOutside, vectorOutside}
-use Rattle.pmv.specs.Component.{rangeOf, inRange, prediction, raised, lowered, wrapped, vectorOf, newPredictor, fromDelta, fromDeltaRefusal}
+use Rattle.pmv.specs.Component.{rangeOf, inRange, prediction, lowered, wrapped, vectorOf, newPredictor, fromDelta, fromDeltaRefusal}
 
 module _ (f : ℕ) where
   -- -16f ≤ v ≤ 16f - 1

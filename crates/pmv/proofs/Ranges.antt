@@ -1,19 +1,17 @@
 -- The range of vectors and the wrap.
 -- Assumes nothing.
-use mathlib.Core.Path.{_≡_, refl}
-use mathlib.Core.Bool.{Bool, true, false, not, _&&_, cond}
-use Prim.Native.Nat.{ℕ, _+_, _*_, _≤_, _<_}
+use mathlib.Core.Path.{_≡_}
+use mathlib.Core.Bool.{Bool, true, false}
+use Prim.Native.Nat.{ℕ, _+_, _*_, _≤_}
 use native.Mathlib.Omega.{arith}
-use lib.IntN.{ℤ, pos, negℤ, _+ℤ_, _-ℤ_, _*ℤ_}
-use lib.Signed.{ltZ, leZ}
+use lib.IntN.{ℤ, pos, _+ℤ_, _-ℤ_}
+use lib.Signed.{leZ}
 use mir.Syntax.{w32}
 use mir.Val.{SFits}
-use Rattle.laws.proofs.Signed.{zp, zn, sub-z, le-yes}
-use Rattle.laws.proofs.Bounded.{Within, within-add, within-sub, within-neg, within-mul, within-more, within-fits, fits-within}
+use Rattle.laws.proofs.Signed.{sub-z, le-yes}
+use Rattle.laws.proofs.Bounded.{Within, within-add, within-neg, within-mul, within-fits, fits-within}
 use Rattle.laws.proofs.Tests.{both}
-use Rattle.forming_predictions.specs.Splitting.{floorHalf}
-use Rattle.forming_predictions.proofs.Splitting.{floor-fits}
-use Rattle.pmv.specs.Component.{rangeOf, inRange, prediction, raised, lowered, wrapped, vectorOf, newPredictor, fromDelta, fromDeltaRefusal}
+use Rattle.pmv.specs.Component.{rangeOf, inRange, vectorOf, newPredictor, fromDelta, fromDeltaRefusal}
 use Rattle.pmv.specs.Answers.{reconstructedAnswer}
 use Rattle.pmv.specs.inner.Bounds.{Small}
 use Rattle.pmv.specs.declared.component.VectorRange.{VectorRange}
@@ -46,24 +44,8 @@ high-fits s = within-fits (s .high) (omega arith)
 pub range-fits : {b : VectorRange} → Small b → SFits w32 (b .range)
 range-fits s = within-fits (s .range) (omega arith)
 
-choose-within : {n : ℕ} {x y : ℤ} (t : Bool) → Within n x → Within n y → Within n (cond t x y)
-choose-within true p q = p
-choose-within false p q = q
-
-pub prediction-fits : (h : Bool) {z : ℤ} → SFits w32 z → SFits w32 (prediction h z)
-prediction-fits true f = floor-fits f
-prediction-fits false f = f
-
 pub sum-within : {x y : ℤ} → SFits w32 x → SFits w32 y → Within 4294967296 (x +ℤ y)
 sum-within f g = within-add (fits-within f) (fits-within g)
-
-pub raised-within : {b : VectorRange} {v : ℤ} → Small b → Within 4294967296 v → Within 4294975488 (raised b v)
-raised-within {b} {v} s w =
-    choose-within (ltZ v (b .low)) (within-add w (s .range)) (within-more w (omega arith))
-
-pub lowered-within : {b : VectorRange} {v : ℤ} → Small b → Within 4294975488 v → Within 4294983680 (lowered b v)
-lowered-within {b} {v} s w =
-    choose-within (ltZ (b .high) v) (within-sub w (s .range)) (within-more w (omega arith))
 
 -- a vector in range is as small
 pub in-range-within : {b : VectorRange} (v : ℤ) → Small b → inRange b v ≡ true → Within 4096 v
@@ -90,14 +72,17 @@ module _ (b : VectorRange) (h : Bool) (p d : ℤ) where
   unfolding fromDeltaRefusal
   from-delta-6 e f = rw (e, f)
 
-  pub from-delta-accepted : inRange b d ≡ true → inRange b (vectorOf b h p d) ≡ true → fromDeltaRefusal b h p d ≡ 0
+  pub from-delta-accepted : inRange b d ≡ true → inRange b (vectorOf b h p d) ≡ true
+      → C.Component (fromDelta b h p d) ≡ reconstructedAnswer (fromDeltaRefusal b h p d) (fromDelta b h p d)
   unfolding fromDeltaRefusal
   from-delta-accepted e f = rw (e, f)
 
   -- the four numbers
-  pub from-delta-is : (v n : ℤ) → v ≡ vectorOf b h p d → n ≡ newPredictor h v
-      → _≡_ {A = ReconstructedComponent}
-      (record { «vector_prime» = v; «new_pmv» = n; delta = d; range = b .range })
-      (fromDelta b h p d)
+  pub from-delta-is : {v n x y : ℤ}
+      → v ≡ vectorOf b h p d
+      → n ≡ newPredictor h (vectorOf b h p d)
+      → x ≡ d
+      → y ≡ b .range
+      → _≡_ {A = ReconstructedComponent} (record { «vector_prime» = v; «new_pmv» = n; delta = x; range = y }) (fromDelta b h p d)
   unfolding fromDelta
-  from-delta-is v n e f = rw (f, e)
+  from-delta-is e f g k = λ i. record { «vector_prime» = e i; «new_pmv» = f i; delta = g i; range = k i }

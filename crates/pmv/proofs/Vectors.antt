@@ -2,7 +2,7 @@
 -- Assumes nothing.
 use mathlib.Core.Path.{_≡_, refl, sym, ap, _∙_}
 use mathlib.Core.Bool.{Bool, true, false}
-use Prim.Native.Nat.{ℕ, zero, suc, _+_, _*_}
+use Prim.Native.Nat.{ℕ, zero, suc}
 use native.Mathlib.Omega.{arith}
 use lib.IntN.{ℤ, pos}
 use lib.Seq.{getD-set-other}
@@ -11,8 +11,8 @@ use Rattle.forming_predictions.specs.SampleAnswers.{valueUnless}
 use Rattle.pmv.specs.Component.{halves, componentOf, componentRefusal}
 use Rattle.pmv.specs.Predictors.{pmvIndex, predictor, stored}
 use Rattle.pmv.specs.Answers.{reconstructedAnswer, reconstructedNumber, reconstructedValue, vectorAnswer, vectorNumber, vectorValue}
-use Rattle.pmv.specs.Vector.{ported, part, partRefusal, decoded, horizontalRefusal, verticalRefusal, vectorRefusal, components, horizontalStored, bothStored, vectorPredictors, reconstructed}
-use Rattle.pmv.specs.inner.Steps.{withVertical, joined}
+use Rattle.pmv.specs.Vector.{ported, part, partRefusal, decoded, horizontalRefusal, verticalRefusal, vectorRefusal, components, horizontalStored, bothStored, reconstructed}
+use Rattle.pmv.specs.inner.Steps.{joined}
 use Rattle.pmv.specs.declared.kinds.VectorIndex.{VectorIndex}
 use Rattle.pmv.specs.declared.kinds.Direction.{Direction}
 use Rattle.pmv.specs.declared.kinds.Component.{Component}

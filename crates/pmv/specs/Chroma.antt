@@ -1,5 +1,5 @@
 -- ISO/IEC 13818-2, 7.6.3.7: the motion vector of the chrominance, from the luminance vector.
-use Prim.Native.Nat.{ℕ, suc, _/_}
+use Prim.Native.Nat.{suc, _/_}
 use lib.IntN.{ℤ, pos, negsuc, negℤ}
 use Rattle.pmv.specs.declared.kinds.ChromaFormat.{ChromaFormat}
 use Rattle.pmv.specs.declared.kinds.ChromaFormat.the-variants.{Yuv420, Yuv422, Yuv444}

@@ -1,5 +1,5 @@
 -- ISO/IEC 13818-2, Table 7-7: the predictors PMV[r][s][t], where r is the first or second vector, s the direction and t the component.
-use mathlib.Core.List.{List, [], _∷_}
+use mathlib.Core.List.{[], _∷_}
 use Prim.Native.Nat.{ℕ, _+_, _*_}
 use lib.IntN.{ℤ, pos}
 use lib.ListN.{getD, set}

@@ -3,7 +3,7 @@
 use mathlib.Core.Bool.{Bool, true, false, not, _&&_, _||_, cond}
 use Prim.Native.Nat.{ℕ}
 use lib.Dec.{eqb}
-use Rattle.combine_predictions.specs.Refusals.{cause, orElse, unlessRefused}
+use Rattle.combine_predictions.specs.Refusals.{cause, unlessRefused}
 use Rattle.pmv.specs.Kinds.{isFramePicture, isInterPicture}
 use Rattle.pmv.specs.Refusals.{intraWithMotion, typeMissing, frameBasedInField, sixteenByEightInFrame, dualPrimeFlags, noneRowFlags}
 use Rattle.pmv.specs.Predictors.{zeroed, firstCopied}

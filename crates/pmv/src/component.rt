@@ -3,13 +3,12 @@ use crate::kinds::Component;
 use crate::kinds::MvFormat;
 use crate::kinds::PictureStructure;
 ghost use mathlib.Core.Path.{_≡_};
-ghost use mathlib.Core.Bool.{Bool};
-ghost use Prim.Native.Nat.{ℕ, _+_, _*_, _≤_, _<_};
-ghost use lib.IntN.{ℤ, pos, natAbs, _+ℤ_, _-ℤ_};
+ghost use Prim.Native.Nat.{_+_, _*_, _≤_, _<_};
+ghost use lib.IntN.{ℤ, natAbs, _+ℤ_};
 ghost use Rattle.laws.proofs.Bounded.{Within};
 ghost use Rattle.forming_predictions.specs.SampleAnswers.{valueUnless};
-ghost use Rattle.pmv.specs.Delta.{scale, isPlain, magnitude, withSign, delta, residualIn, residualValue, fCodeFits, codeFits, residualRefusal, codeRefusal, fCodeRefusal, deltaRefusal};
-ghost use Rattle.pmv.specs.Component.{rangeOf, inRange, halves, prediction, raised, lowered, wrapped, vectorOf, newPredictor, fromDelta, fromDeltaRefusal, deltaOf, componentOf, componentRefusal};
+ghost use Rattle.pmv.specs.Delta.{scale, isPlain, withSign, delta, residualValue, fCodeFits, codeFits, residualRefusal, codeRefusal, fCodeRefusal, deltaRefusal};
+ghost use Rattle.pmv.specs.Component.{rangeOf, inRange, halves, prediction, raised, lowered, vectorOf, newPredictor, fromDelta, fromDeltaRefusal, deltaOf, componentOf, componentRefusal};
 ghost use Rattle.pmv.specs.Answers.{deltaAnswer, deltaNumber, deltaValue, rangeAnswer, rangeNumber, rangeValue, reconstructedAnswer, reconstructedNumber, reconstructedValue};
 ghost use Rattle.pmv.specs.inner.Bounds.{Small};
 

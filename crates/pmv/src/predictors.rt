@@ -3,7 +3,7 @@ use crate::kinds::Component;
 use crate::kinds::Direction;
 use crate::kinds::VectorIndex;
 ghost use mathlib.Core.Path.{_≡_};
-ghost use Prim.Native.Nat.{ℕ, _<_};
+ghost use Prim.Native.Nat.{_<_};
 ghost use Rattle.pmv.specs.Predictors.{pmvIndex, predictor, stored, zeroed, firstCopied};
 
 /// The eight predictors in half samples: PMV\[r\]\[s\]\[t\] is at 4r + 2s + t.

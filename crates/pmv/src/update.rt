@@ -6,7 +6,7 @@ use crate::kinds::PictureStructure;
 use crate::kinds::PredictionType;
 use crate::predictors::Pmv;
 ghost use mathlib.Core.Path.{_≡_};
-ghost use Prim.Native.Nat.{ℕ, _≤_};
+ghost use Prim.Native.Nat.{_≤_};
 ghost use Rattle.pmv.specs.Kinds.{typeNumber, flagNumber};
 ghost use Rattle.pmv.specs.Update.{updateRefusal, updateOutcome, outcomeNumber, after, updated, spatialTemporalReset};
 ghost use Rattle.forming_predictions.specs.SampleAnswers.{valueUnless};
@@ -89,10 +89,10 @@ enum Row {
 }
 
 /// Tables 7-10 and 7-11: by picture (field, frame), then type (field-based, frame-based, 16 × 8, dual prime), then forward, backward and
-/// intra, which counts fastest. Concealment and an absent type are decided beside it.
+/// intra, which counts fastest: eight lines for each picture and type, the first of them without a flag. Concealment and an absent type are
+/// decided beside it.
 const OUTCOMES: [Row; 64] = [
-    // field picture, field-based
-    Row::ZeroMotionReset,
+    Row::ZeroMotionReset, // field picture, field-based
     Row::IntraResetAll,
     Row::CopyBackward,
     Row::IntraWithMotion,
@@ -100,8 +100,7 @@ const OUTCOMES: [Row; 64] = [
     Row::IntraWithMotion,
     Row::CopyBoth,
     Row::IntraWithMotion,
-    // field picture, frame-based
-    Row::FrameBasedInField,
+    Row::FrameBasedInField, // field picture, frame-based
     Row::IntraResetAll,
     Row::FrameBasedInField,
     Row::IntraWithMotion,
@@ -109,8 +108,7 @@ const OUTCOMES: [Row; 64] = [
     Row::IntraWithMotion,
     Row::FrameBasedInField,
     Row::IntraWithMotion,
-    // field picture, 16 × 8
-    Row::NoneRowFlags,
+    Row::NoneRowFlags, // field picture, 16 × 8
     Row::IntraResetAll,
     Row::NoUpdate,
     Row::IntraWithMotion,
@@ -118,8 +116,7 @@ const OUTCOMES: [Row; 64] = [
     Row::IntraWithMotion,
     Row::NoUpdate,
     Row::IntraWithMotion,
-    // field picture, dual prime
-    Row::DualPrimeFlags,
+    Row::DualPrimeFlags, // field picture, dual prime
     Row::IntraResetAll,
     Row::DualPrimeFlags,
     Row::IntraWithMotion,
@@ -127,8 +124,7 @@ const OUTCOMES: [Row; 64] = [
     Row::IntraWithMotion,
     Row::DualPrimeFlags,
     Row::IntraWithMotion,
-    // frame picture, field-based
-    Row::NoneRowFlags,
+    Row::NoneRowFlags, // frame picture, field-based
     Row::IntraResetAll,
     Row::NoUpdate,
     Row::IntraWithMotion,
@@ -136,8 +132,7 @@ const OUTCOMES: [Row; 64] = [
     Row::IntraWithMotion,
     Row::NoUpdate,
     Row::IntraWithMotion,
-    // frame picture, frame-based
-    Row::ZeroMotionReset,
+    Row::ZeroMotionReset, // frame picture, frame-based
     Row::IntraResetAll,
     Row::CopyBackward,
     Row::IntraWithMotion,
@@ -145,8 +140,7 @@ const OUTCOMES: [Row; 64] = [
     Row::IntraWithMotion,
     Row::CopyBoth,
     Row::IntraWithMotion,
-    // frame picture, 16 × 8
-    Row::SixteenByEightInFrame,
+    Row::SixteenByEightInFrame, // frame picture, 16 × 8
     Row::IntraResetAll,
     Row::SixteenByEightInFrame,
     Row::IntraWithMotion,
@@ -154,8 +148,7 @@ const OUTCOMES: [Row; 64] = [
     Row::IntraWithMotion,
     Row::SixteenByEightInFrame,
     Row::IntraWithMotion,
-    // frame picture, dual prime
-    Row::DualPrimeFlags,
+    Row::DualPrimeFlags, // frame picture, dual prime
     Row::IntraResetAll,
     Row::DualPrimeFlags,
     Row::IntraWithMotion,

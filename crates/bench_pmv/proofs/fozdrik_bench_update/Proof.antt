@@ -1,7 +1,6 @@
 -- `fozdrik_bench_update` meets its contract.
 -- Assumes nothing.
 use mathlib.Core.Path.{_≡_, ap, _∙_}
-use denote.Ref.{RefT}
 use Rattle.pmv.specs.Update.{updated}
 use Rattle.pmv.specs.declared.update.PredictorUpdate.{PredictorUpdate}
 use Rattle.bench_pmv.specs.Inputs.{contextOf, pmvOf, updateCode}

@@ -1,8 +1,6 @@
 -- `fozdrik_bench_vector` meets its contract.
 -- Assumes nothing.
 use mathlib.Core.Path.{_≡_, ap, _∙_}
-use lib.IntN.{ℤ}
-use mathlib.Core.List.{List}
 use mir.Facts.{toZ-ofZ}
 use Rattle.pmv.specs.Vector.{ported, reconstructed}
 use Rattle.pmv.specs.declared.vector.DecodedVector.{DecodedVector}
@@ -60,10 +58,13 @@ returns : tie.Need-returns
 returns c =
     let b = c .before .before .before .before .before in
     let a = b .before .before .before .before .before .before .before .before .args in
-    let e = vector-is b in
-    (c .vector-code .ensures ∙ ap (λ (u : DecodedVector). vectorCode (u .answer)) e,
-    (ap (λ (u : DecodedVector). u .pmv .values) e,
-    c .before .write-vector .ensures ∙ ap (λ (u : DecodedVector). componentsOr (a .vector .now) (u .answer)) e))
+    let e = vector-is b in (
+      c .vector-code .ensures ∙ ap (λ (u : DecodedVector). vectorCode (u .answer)) e,
+      (
+        ap (λ (u : DecodedVector). u .pmv .values) e,
+        c .before .write-vector .ensures ∙ ap (λ (u : DecodedVector). componentsOr (a .vector .now) (u .answer)) e,
+      ),
+    )
 
 pub fozdrik-bench-vector-spec : {M : Type 1} → statement M
 fozdrik-bench-vector-spec =

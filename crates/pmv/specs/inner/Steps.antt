@@ -1,5 +1,4 @@
 -- A vector as the code makes it: one component's answer after the other's.
-use Prim.Native.Nat.{ℕ}
 use Rattle.pmv.specs.declared.component.ReconstructedComponent.{ReconstructedComponent}
 use Rattle.pmv.specs.declared.component.Reconstructed.{Reconstructed}
 use Rattle.pmv.specs.declared.component.Reconstructed.the-variants as C

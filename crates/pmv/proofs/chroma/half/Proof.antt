@@ -10,17 +10,17 @@ use Rattle.pmv.proofs.Chrominance.{trunc-is, trunc-fits}
 use Rattle.pmv.proofs.chroma.half.Statement.{statement}
 use Rattle.pmv.proofs.chroma.half.Tie as tie
 
-div-result : tie.Need-div-result
-div-result c =
-    let v = c .args .v in
-    let f = c .fits .v in
-    rw (toZ-ofZ f, trunc-is v) (omega arith, trunc-fits f)
-
 returns : tie.Need-returns
 returns c =
     let v = c .args .v in
     let f = c .fits .v in
     rw (toZ-ofZ f) (toZ-ofZ {w = w32} {z = quotZ v (pos 2)} (rw (trunc-is v) (trunc-fits f)) ∙ trunc-is v)
+
+div-result : tie.Need-div-result
+div-result c =
+    let v = c .args .v in
+    let f = c .fits .v in
+    rw (toZ-ofZ f, trunc-is v) (omega arith, trunc-fits f)
 
 pub half-spec : {M : Type 1} → statement M
 half-spec = tie.close (tie.spec div-result returns)

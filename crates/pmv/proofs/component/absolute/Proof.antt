@@ -1,13 +1,11 @@
 -- `absolute` meets its contract: the code is far from the ends of an i32.
 -- Assumes nothing.
-use mathlib.Core.Path.{_≡_, _∙_}
-use Prim.Native.Nat.{_≤_}
 use native.Mathlib.Omega.{arith}
-use lib.IntN.{ℤ, pos, natAbs, _-ℤ_}
+use lib.IntN.{ℤ, pos, _-ℤ_}
 use mir.Syntax.{w32}
 use mir.Val.{SFits}
 use mir.Facts.{toZ-ofZ}
-use Rattle.laws.proofs.Signed.{zp, zn, zn-zero, sub-z, abs-z}
+use Rattle.laws.proofs.Signed.{zn-zero, sub-z, abs-z}
 use Rattle.laws.proofs.Bounded.{Within, within-sub, within-fits}
 use Rattle.laws.proofs.Bits.{is-neg, not-neg, cast-ok}
 use borrow.Author.Needs.{needs}

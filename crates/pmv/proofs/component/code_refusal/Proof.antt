@@ -1,6 +1,6 @@
 -- `code_refusal` meets its contract.
 -- Assumes nothing.
-use mathlib.Core.Path.{_≡_, sym, _∙_}
+use mathlib.Core.Path.{sym, _∙_}
 use mir.Facts.{toZ-ofZ}
 use Rattle.laws.proofs.Tests.{not-taken, not-left}
 use Rattle.pmv.proofs.Deltas.{refused-2, refused-residual}

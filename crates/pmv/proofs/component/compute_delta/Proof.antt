@@ -1,11 +1,10 @@
 -- `compute_delta` meets its contract.
 -- Assumes nothing.
-use mathlib.Core.Path.{_≡_, sym, ap, _∙_}
-use lib.IntN.{ℤ}
+use mathlib.Core.Path.{_≡_, sym, _∙_}
 use mir.Syntax.{w32}
 use mir.Facts.{toZ-ofZ}
 use Rattle.laws.proofs.Bits.{back}
-use Rattle.pmv.specs.Delta.{scale, delta, deltaRefusal}
+use Rattle.pmv.specs.Delta.{deltaRefusal}
 use Rattle.pmv.specs.Component.{deltaOf}
 use Rattle.pmv.proofs.Deltas.{accepted-f-code, accepted-code}
 use Rattle.pmv.proofs.Answers.{delta-all, delta-no, delta-yes}

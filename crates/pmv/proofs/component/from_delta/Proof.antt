@@ -1,7 +1,7 @@
 -- `from_delta` meets its contract.
 -- Assumes nothing.
-use mathlib.Core.Path.{_≡_, refl, sym, ap, _∙_}
-use mathlib.Core.Bool.{true, false}
+use mathlib.Core.Path.{_≡_, sym, ap, _∙_}
+use mathlib.Core.Bool.{true}
 use native.Mathlib.Omega.{arith}
 use lib.IntN.{ℤ}
 use mir.Syntax.{w32, w64}
@@ -10,10 +10,9 @@ use mir.Facts.{toZ-ofZ, sfits-widen}
 use Rattle.laws.proofs.Tests.{not-taken, not-left}
 use Rattle.laws.proofs.Bits.{back, widened}
 use Rattle.laws.proofs.Bounded.{Within, within-fits}
-use Rattle.pmv.specs.Component.{inRange, vectorOf, newPredictor, fromDelta, fromDeltaRefusal}
-use Rattle.pmv.specs.Answers.{reconstructedAnswer}
+use Rattle.pmv.specs.Component.{inRange, vectorOf}
 use Rattle.pmv.specs.declared.component.Reconstructed.the-variants.{Component}
-use Rattle.pmv.proofs.Ranges.{range-fits, in-range-within, predictor-fits, from-delta-5, from-delta-6, from-delta-accepted, from-delta-is}
+use Rattle.pmv.proofs.Ranges.{range-fits, in-range-within, from-delta-5, from-delta-6, from-delta-accepted, from-delta-is}
 use borrow.Author.Needs.{needs}
 use Rattle.pmv.proofs.component.from_delta.Statement.{statement}
 use Rattle.pmv.proofs.component.from_delta.Tie as tie
@@ -86,12 +85,12 @@ returns-3 c =
     let e = c .before .before in
     let s = e .before .before .before .before .before in
     let a = s .args in
-    let f = within-fits {w = w32} (vector-within e) (omega arith) in
+    let f = toZ-ofZ (within-fits {w = w32} (vector-within e) (omega arith)) in
     let v = vector-is (e .before .before) in
-    let n = rw (v, toZ-ofZ f) at (c .before .next-predictor .ensures) in
-    let k = back w32 (c .before .next-predictor .result) (c .before .next-predictor .ok) ∙ n in
-    rw (v, toZ-ofZ f, toZ-ofZ (s .fits .delta), toZ-ofZ (range-fits (s .pre)), from-delta-accepted (a .b) (a .halved) (a .prior-pmv) (a .delta) (delta-in (e .before .before .before)) (vector-in e))
-    (ap Component (from-delta-is (a .b) (a .halved) (a .prior-pmv) (a .delta) _ _ refl k))
+    let n = back w32 (c .before .next-predictor .result) (c .before .next-predictor .ok) ∙ (rw (v, f) at (c .before .next-predictor .ensures)) in
+    ap Component
+    (from-delta-is (a .b) (a .halved) (a .prior-pmv) (a .delta) (ap (λ (z : ℤ). toZ w32 (ofZ w32 z)) v ∙ f) n (toZ-ofZ (s .fits .delta)) (toZ-ofZ (range-fits (s .pre))))
+    ∙ from-delta-accepted (a .b) (a .halved) (a .prior-pmv) (a .delta) (delta-in (e .before .before .before)) (vector-in e)
 
 pub from-delta-spec : {M : Type 1} → statement M
 from-delta-spec =

@@ -1,12 +1,9 @@
 -- `raise` meets its contract.
 -- Assumes nothing.
-use mathlib.Core.Path.{_≡_, refl}
-use mathlib.Core.Bool.{true, false}
+use mathlib.Core.Path.{refl}
 use native.Mathlib.Omega.{arith}
 use lib.IntN.{_+ℤ_}
-use lib.Signed.{ltZ}
-use mir.Syntax.{w32, w64}
-use mir.Val.{SFits}
+use mir.Syntax.{w64}
 use mir.Facts.{toZ-ofZ, sfits-widen}
 use Rattle.laws.proofs.Bits.{widened}
 use Rattle.laws.proofs.Bounded.{Within, within-add, within-fits, within-more}

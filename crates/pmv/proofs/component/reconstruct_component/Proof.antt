@@ -1,16 +1,12 @@
 -- `reconstruct_component` meets its contract.
 -- Assumes nothing.
 use mathlib.Core.Path.{_≡_, sym, ap, _∙_}
-use Prim.Native.Nat.{ℕ}
-use lib.IntN.{ℤ}
 use mir.Syntax.{w32}
 use mir.Val.{SFits}
 use mir.Facts.{toZ-ofZ}
 use Rattle.pmv.specs.Delta.{scale, deltaRefusal}
-use Rattle.pmv.specs.Component.{rangeOf, halves, fromDelta, fromDeltaRefusal, deltaOf, componentOf, componentRefusal}
-use Rattle.pmv.specs.Answers.{deltaAnswer, reconstructedAnswer}
-use Rattle.pmv.specs.declared.component.ComputedDelta.{ComputedDelta}
-use Rattle.pmv.specs.declared.component.ComputedDelta.the-variants as D
+use Rattle.pmv.specs.Component.{rangeOf, halves, fromDeltaRefusal, deltaOf, componentOf, componentRefusal}
+use Rattle.pmv.specs.Answers.{deltaAnswer}
 use Rattle.pmv.proofs.Deltas.{accepted-f-code}
 use Rattle.pmv.proofs.Answers.{component-all, component-no, delta-refused, delta-given}
 use borrow.Author.Needs.{needs}

@@ -1,7 +1,6 @@
 -- `vector_range` meets its contract.
 -- Assumes nothing.
-use mathlib.Core.Path.{_≡_, refl, sym, ap, _∙_}
-use Prim.Native.Nat.{ℕ}
+use mathlib.Core.Path.{sym, ap, _∙_}
 use Rattle.laws.proofs.Tests.{not-taken, not-left}
 use Rattle.pmv.specs.Delta.{scale, fCodeRefusal}
 use Rattle.pmv.specs.Component.{rangeOf}

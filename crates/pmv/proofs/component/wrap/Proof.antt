@@ -1,6 +1,6 @@
 -- `wrap` meets its contract.
 -- Assumes nothing.
-use mathlib.Core.Path.{_≡_, _∙_}
+use mathlib.Core.Path.{_∙_}
 use mir.Syntax.{w32, w64}
 use mir.Facts.{toZ-ofZ}
 use Rattle.laws.proofs.Bits.{back}

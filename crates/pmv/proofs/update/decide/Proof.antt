@@ -1,6 +1,6 @@
 -- `decide` meets its contract: concealment and an absent type are decided beside the table.
 -- Assumes nothing.
-use mathlib.Core.Path.{_≡_, ap, _∙_}
+use mathlib.Core.Path.{ap, _∙_}
 use mathlib.Core.Bool.{Bool}
 use Rattle.pmv.specs.Kinds.{isFramePicture}
 use Rattle.pmv.specs.inner.Rows.{tableAnswer}

@@ -1,7 +1,6 @@
 -- `updated_predictors` meets its contract.
 -- Assumes nothing.
-use mathlib.Core.Path.{_≡_, sym, _∙_}
-use Rattle.pmv.specs.Predictors.{zeroed}
+use mathlib.Core.Path.{sym, _∙_}
 use Rattle.pmv.specs.Update.{updateRefusal, updateOutcome, after, updated}
 use Rattle.pmv.proofs.Answers.{update-no, update-yes, updated-all}
 use borrow.Author.Needs.{needs}

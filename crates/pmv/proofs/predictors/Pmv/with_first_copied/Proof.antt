@@ -1,6 +1,5 @@
 -- `with_first_copied` meets its contract.
 -- Assumes nothing.
-use mathlib.Core.Path.{_≡_, _∙_}
 use mir.Syntax.{w32}
 use Rattle.laws.proofs.Bits.{back}
 use borrow.Author.Needs.{needs}
