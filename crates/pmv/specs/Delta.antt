@@ -40,7 +40,7 @@ abbrev pub residualValue : MotionResidual → ℕ
 residualValue Absent = 0
 residualValue (Present n) = n
 
--- 6.3.10: 1 to 9 are the f_codes of vectors, and 15 stands for none
+-- 6.3.11: 1 to 9 are the f_codes of vectors, and 15 stands for none
 unfoldable pub fCodeFits : ℕ → Bool
 fCodeFits fCode = leb 1 fCode && leb fCode 9
 
