@@ -1,5 +1,5 @@
-//! Shows what is built so far: blocks predicted from a small plane, of its frame and of a field; the mean of two predictions and a
-//! choice of one; and refusals.
+//! Shows what is built so far: vectors from the differences of a stream, and their predictors; blocks predicted from a small plane, of its
+//! frame and of a field; the mean of two predictions and a choice of one; and refusals.
 use combine_predictions::Averaged;
 use combine_predictions::PredictionDirection;
 use forming_predictions::BlockSize;
@@ -8,6 +8,20 @@ use forming_predictions::FieldReference;
 use forming_predictions::Predicted;
 use forming_predictions::ReferencePlane;
 use libc::STDOUT_FILENO;
+use pmv::component::MotionResidual;
+use pmv::kinds::ChromaFormat;
+use pmv::kinds::Direction;
+use pmv::kinds::MotionType;
+use pmv::kinds::MvFormat;
+use pmv::kinds::PictureStructure;
+use pmv::kinds::PredictionType;
+use pmv::kinds::VectorIndex;
+use pmv::predictors::Pmv;
+use pmv::update::PmvUpdateContext;
+use pmv::update::Updated;
+use pmv::vector::DecodedVector;
+use pmv::vector::MotionVector;
+use pmv::vector::ReconstructedVector;
 
 fn say(text: &[u8]) {
     io::write_all(STDOUT_FILENO, text);
@@ -15,6 +29,124 @@ fn say(text: &[u8]) {
 
 fn number(n: u8) {
     io::print_decimal(STDOUT_FILENO, n as u64);
+}
+
+fn signed(n: i32) {
+    if n < 0 {
+        say(b"-");
+        io::print_decimal(STDOUT_FILENO, (0 - n as i64) as u64);
+        return;
+    }
+    io::print_decimal(STDOUT_FILENO, n as u64);
+}
+
+fn pair(horizontal: i32, vertical: i32) {
+    say(b" (");
+    signed(horizontal);
+    say(b", ");
+    signed(vertical);
+    say(b")");
+}
+
+fn predictors(pmv: Pmv) {
+    let values = pmv.values;
+    say(b", predictors");
+    let mut i: usize = 0;
+    while i < 8 {
+        say(b" ");
+        signed(values[i]);
+        i += 1;
+    }
+    say(b"\n");
+}
+
+fn vector(d: DecodedVector) {
+    let a = d.answer;
+    match a {
+        ReconstructedVector::Components(c) => {
+            let h = c.horizontal;
+            let v = c.vertical;
+            pair(h.vector_prime, v.vector_prime);
+        }
+        ReconstructedVector::Refused(n) => {
+            say(b" refused, ");
+            number(n);
+        }
+    }
+    predictors(d.pmv);
+}
+
+/// The first forward vector of a macroblock in a frame picture.
+fn decode(pmv: Pmv, format: MvFormat, mv: MotionVector, f_code: u8) -> DecodedVector {
+    pmv::vector::reconstructed_motion_vector(
+        pmv,
+        mv,
+        VectorIndex::First,
+        Direction::Forward,
+        f_code,
+        f_code,
+        format,
+        PictureStructure::Frame,
+    )
+}
+
+/// A difference without residuals.
+fn plain(horizontal: i32, vertical: i32) -> MotionVector {
+    MotionVector {
+        motion_code_horiz: horizontal,
+        motion_residual_horiz: MotionResidual::Absent,
+        motion_code_vert: vertical,
+        motion_residual_vert: MotionResidual::Absent,
+    }
+}
+
+/// A macroblock of a frame picture that is not intra, with forward motion alone.
+fn update(pmv: Pmv, t: PredictionType) {
+    let u = pmv::update::updated_predictors(
+        pmv,
+        PmvUpdateContext {
+            picture_structure: PictureStructure::Frame,
+            prediction_type: MotionType::Present(t),
+            macroblock_motion_forward: true,
+            macroblock_motion_backward: false,
+            macroblock_intra: false,
+            concealment_motion_vectors: false,
+        },
+    );
+    let a = u.answer;
+    match a {
+        Updated::Outcome(_) => say(b" updated"),
+        Updated::Refused(n) => {
+            say(b" refused, ");
+            number(n);
+        }
+    }
+    predictors(u.pmv);
+}
+
+fn decode_vectors() {
+    say(b"f_code 1, codes 3 and -2                ");
+    let first = decode(Pmv::new(), MvFormat::Frame, plain(3, -2), 1);
+    vector(first);
+    say(b"then codes 15 and -16, which wrap       ");
+    let second = decode(first.pmv, MvFormat::Frame, plain(15, -16), 1);
+    vector(second);
+    say(b"then a field vector, codes 0 and 1      ");
+    let third = decode(second.pmv, MvFormat::Field, plain(0, 1), 1);
+    vector(third);
+    say(b"then codes 1 and 16                     ");
+    let fourth = decode(third.pmv, MvFormat::Frame, plain(1, 16), 1);
+    vector(fourth);
+    say(b"frame-based motion, forward             ");
+    update(fourth.pmv, PredictionType::FrameBased);
+    say(b"16 x 8 motion in a frame picture        ");
+    update(fourth.pmv, PredictionType::SixteenByEight);
+    say(b"chrominance of (-3, -3), 4:2:0 and 4:2:2");
+    let both = pmv::chroma::scale_chroma(-3, -3, ChromaFormat::Yuv420);
+    pair(both.chroma_horiz, both.chroma_vert);
+    let one = pmv::chroma::scale_chroma(-3, -3, ChromaFormat::Yuv422);
+    pair(one.chroma_horiz, one.chroma_vert);
+    say(b"\n");
 }
 
 fn samples(s: &[u8]) {
@@ -205,6 +337,7 @@ fn combine() {
 }
 
 fn main() {
+    decode_vectors();
     form();
     combine();
 }
