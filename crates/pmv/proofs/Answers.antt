@@ -1,14 +1,15 @@
--- Answers: a refused one has its number and no value, an accepted one the number 0 and its values.
+-- Answers: what a number and values make, and what an arm of a match learns. Once over the kind of answer, and then for each kind.
 -- Assumes nothing.
 use mathlib.Core.Path.{_≡_, refl, sym, ap, _∙_}
 use mathlib.Core.Bool.{Bool, true, false}
+use mathlib.Core.Option.{Option, none, some}
 use Prim.Native.Nat.{ℕ, zero, suc}
 use native.Mathlib.Omega.{arith}
 use lib.IntN.{ℤ}
 use Rattle.combine_predictions.specs.Refusals.{orElse, unlessRefused}
 use Rattle.forming_predictions.specs.SampleAnswers.{valueUnless}
 use Rattle.pmv.specs.Update.{updateRefusal, updateOutcome, after, updated}
-use Rattle.pmv.specs.Answers.{deltaAnswer, deltaNumber, deltaValue, rangeAnswer, rangeNumber, rangeValue, reconstructedAnswer, reconstructedNumber, reconstructedValue, updateAnswer, updateNumber, updateValue}
+use Rattle.pmv.specs.Answers.{deltaAnswer, deltaNumber, deltaValue, rangeAnswer, rangeNumber, rangeValue, reconstructedAnswer, reconstructedNumber, reconstructedValue, vectorAnswer, vectorNumber, vectorValue, updateAnswer, updateNumber, updateValue}
 use Rattle.pmv.specs.declared.component.ComputedDelta.{ComputedDelta}
 use Rattle.pmv.specs.declared.component.ComputedDelta.the-variants as D
 use Rattle.pmv.specs.declared.component.VectorRange.{VectorRange}
@@ -16,51 +17,64 @@ use Rattle.pmv.specs.declared.component.FoundRange.{FoundRange}
 use Rattle.pmv.specs.declared.component.ReconstructedComponent.{ReconstructedComponent}
 use Rattle.pmv.specs.declared.component.Reconstructed.{Reconstructed}
 use Rattle.pmv.specs.declared.component.Reconstructed.the-variants as C
+use Rattle.pmv.specs.declared.vector.VectorComponents.{VectorComponents}
+use Rattle.pmv.specs.declared.vector.ReconstructedVector.{ReconstructedVector}
 use Rattle.pmv.specs.declared.update.PmvUpdateOutcome.{PmvUpdateOutcome}
-use Rattle.pmv.specs.declared.update.Updated.{Updated}
 use Rattle.pmv.specs.declared.update.Updated.the-variants as U
 use Rattle.pmv.specs.declared.update.PmvUpdateContext.{PmvUpdateContext}
 use Rattle.pmv.specs.declared.update.PredictorUpdate.{PredictorUpdate}
 use Rattle.pmv.specs.declared.predictors.Pmv.{Pmv}
 
--- ---- the number and the values of each answer: the named promises, from the answer itself
+-- ---- any kind of answer: made of a number and a value, which are read off it again
+abbrev isSome : {X : Type 0} → Option X → Bool
+isSome none = false
+isSome (some v) = true
+
+abbrev valueOr : {X : Type 0} → X → Option X → X
+valueOr z none = z
+valueOr z (some v) = v
+
+module _ {A X : Type 0} (answer : ℕ → X → A) (number : A → ℕ) (value : A → Option X)
+    (parts : (n : ℕ) (v : X) → (number (answer n v) ≡ n) × (value (answer n v) ≡ valueUnless n v)) where
+  -- the named promises, from the answer itself
+  pub promised : (r : A) (n : ℕ) (v : X) → r ≡ answer n v → (number r ≡ n) × (value r ≡ valueUnless (number r) v)
+  promised r n v e =
+      let a = ap number e ∙ parts n v .0 in (a, ap value e ∙ parts n v .1 ∙ ap (λ (k : ℕ). valueUnless k v) (sym a))
+
+  -- an answer without a value was refused, with its number
+  pub refused : (r : A) (n m : ℕ) (v : X) → r ≡ answer m v → number r ≡ n → value r ≡ none → (m ≡ n) × (m ≡ 0 → ⊥)
+  refused r n m v e p q = (sym (parts m v .0) ∙ sym (ap number e) ∙ p, λ z. at m z (sym q ∙ ap value e ∙ parts m v .1))
+    where
+      at : (m : ℕ) → m ≡ 0 → none ≡ valueUnless m v → ⊥
+      at zero z o = let b = ap isSome o in let y : _≡_ {A = ℕ} 0 1 = cc in absurd (omega arith)
+      at (suc m) z o = absurd (omega arith)
+
+  -- an answer with a value was accepted, and the value is its own
+  pub given : (r : A) (m : ℕ) (v x : X) → r ≡ answer m v → value r ≡ some x → (m ≡ 0) × (x ≡ v)
+  given r m v x e q = at m (sym q ∙ ap value e ∙ parts m v .1)
+    where
+      at : (m : ℕ) → some x ≡ valueUnless m v → (m ≡ 0) × (x ≡ v)
+      at zero o = (refl, ap (valueOr x) o)
+      at (suc m) o = let b = ap isSome o in let y : _≡_ {A = ℕ} 0 1 = cc in absurd (omega arith)
+
+-- what is written, and what is kept
+pub written : {A : Type 0} (m : ℕ) (q p : A) → m ≡ 0 → unlessRefused m q p ≡ q
+written m q p e = rw e
+
+pub kept : {A : Type 0} (m : ℕ) (q p : A) → (m ≡ 0 → ⊥) → unlessRefused m q p ≡ p
+kept zero q p h = absurd (h refl)
+kept (suc m) q p h = refl
+
+-- ---- deltas
+delta-parts : (n : ℕ) (v : ℤ) → (deltaNumber (deltaAnswer n v) ≡ n) × (deltaValue (deltaAnswer n v) ≡ valueUnless n v)
+delta-parts zero v = (refl, refl)
+delta-parts (suc n) v = (refl, refl)
+
 pub delta-all : (r : ComputedDelta) (n : ℕ) (v : ℤ)
     → r ≡ deltaAnswer n v
     → (r ≡ deltaAnswer n v) × ((deltaNumber r ≡ n) × (deltaValue r ≡ valueUnless (deltaNumber r) v))
-delta-all r n v e = rw e (refl, at n)
-  where
-    at : (n : ℕ) → (deltaNumber (deltaAnswer n v) ≡ n) × (deltaValue (deltaAnswer n v) ≡ valueUnless (deltaNumber (deltaAnswer n v)) v)
-    at zero = (refl, refl)
-    at (suc n) = (refl, refl)
+delta-all r n v e = (e, promised deltaAnswer deltaNumber deltaValue delta-parts r n v e)
 
-pub range-all : (r : FoundRange) (n : ℕ) (v : VectorRange)
-    → r ≡ rangeAnswer n v
-    → (r ≡ rangeAnswer n v) × ((rangeNumber r ≡ n) × (rangeValue r ≡ valueUnless (rangeNumber r) v))
-range-all r n v e = rw e (refl, at n)
-  where
-    at : (n : ℕ) → (rangeNumber (rangeAnswer n v) ≡ n) × (rangeValue (rangeAnswer n v) ≡ valueUnless (rangeNumber (rangeAnswer n v)) v)
-    at zero = (refl, refl)
-    at (suc n) = (refl, refl)
-
-pub component-all : (r : Reconstructed) (n : ℕ) (v : ReconstructedComponent)
-    → r ≡ reconstructedAnswer n v
-    → (r ≡ reconstructedAnswer n v) × ((reconstructedNumber r ≡ n) × (reconstructedValue r ≡ valueUnless (reconstructedNumber r) v))
-component-all r n v e = rw e (refl, at n)
-  where
-    at : (n : ℕ) → (reconstructedNumber (reconstructedAnswer n v) ≡ n) × (reconstructedValue (reconstructedAnswer n v) ≡ valueUnless (reconstructedNumber (reconstructedAnswer n v)) v)
-    at zero = (refl, refl)
-    at (suc n) = (refl, refl)
-
-pub update-all : (r : Updated) (n : ℕ) (v : PmvUpdateOutcome)
-    → r ≡ updateAnswer n v
-    → (updateNumber r ≡ n) × (updateValue r ≡ valueUnless (updateNumber r) v)
-update-all r n v e = rw e (at n)
-  where
-    at : (n : ℕ) → (updateNumber (updateAnswer n v) ≡ n) × (updateValue (updateAnswer n v) ≡ valueUnless (updateNumber (updateAnswer n v)) v)
-    at zero = (refl, refl)
-    at (suc n) = (refl, refl)
-
--- ---- a delta, made and taken apart
 pub delta-no : (n m : ℕ) (d : ℤ) → n ≡ m → (n ≡ 0 → ⊥) → D.Refused n ≡ deltaAnswer m d
 delta-no zero m d e h = absurd (h refl)
 delta-no (suc n) m d e h = rw (← e)
@@ -68,47 +82,68 @@ delta-no (suc n) m d e h = rw (← e)
 pub delta-yes : (m : ℕ) (v d : ℤ) → m ≡ 0 → v ≡ d → D.Delta v ≡ deltaAnswer m d
 delta-yes m v d e h = rw (e, h)
 
-isDelta : ComputedDelta → Bool
-isDelta (D.Delta d) = true
-isDelta (D.Refused n) = false
-
-valueOr : ℤ → ComputedDelta → ℤ
-valueOr z (D.Delta d) = d
-valueOr z (D.Refused n) = z
-
--- what an arm of a match learns
 pub delta-refused : (m : ℕ) (d : ℤ) (n : ℕ) → D.Refused n ≡ deltaAnswer m d → (m ≡ n) × (m ≡ 0 → ⊥)
-unfolding isDelta
-delta-refused zero d n e = let p = ap isDelta e in let z : _≡_ {A = ℕ} 0 1 = cc in absurd (omega arith)
-delta-refused (suc m) d n e = (sym (ap deltaNumber e), λ p. absurd (omega arith))
+delta-refused m d n e = refused deltaAnswer deltaNumber deltaValue delta-parts (D.Refused n) n m d e refl refl
 
 pub delta-given : (m : ℕ) (d v : ℤ) → D.Delta v ≡ deltaAnswer m d → (m ≡ 0) × (v ≡ d)
-unfolding isDelta valueOr
-delta-given zero d v e = (refl, ap (valueOr d) e)
-delta-given (suc m) d v e = let p = ap isDelta e in let z : _≡_ {A = ℕ} 0 1 = cc in absurd (omega arith)
+delta-given m d v e = given deltaAnswer deltaNumber deltaValue delta-parts (D.Delta v) m d v e refl
 
--- ---- a component whose delta was refused
+-- ---- ranges
+range-parts : (n : ℕ) (v : VectorRange) → (rangeNumber (rangeAnswer n v) ≡ n) × (rangeValue (rangeAnswer n v) ≡ valueUnless n v)
+range-parts zero v = (refl, refl)
+range-parts (suc n) v = (refl, refl)
+
+pub range-all : (r : FoundRange) (n : ℕ) (v : VectorRange)
+    → r ≡ rangeAnswer n v
+    → (r ≡ rangeAnswer n v) × ((rangeNumber r ≡ n) × (rangeValue r ≡ valueUnless (rangeNumber r) v))
+range-all r n v e = (e, promised rangeAnswer rangeNumber rangeValue range-parts r n v e)
+
+-- ---- components
+component-parts : (n : ℕ) (v : ReconstructedComponent)
+    → (reconstructedNumber (reconstructedAnswer n v) ≡ n) × (reconstructedValue (reconstructedAnswer n v) ≡ valueUnless n v)
+component-parts zero v = (refl, refl)
+component-parts (suc n) v = (refl, refl)
+
+pub component-all : (r : Reconstructed) (n : ℕ) (v : ReconstructedComponent)
+    → r ≡ reconstructedAnswer n v
+    → (r ≡ reconstructedAnswer n v) × ((reconstructedNumber r ≡ n) × (reconstructedValue r ≡ valueUnless (reconstructedNumber r) v))
+component-all r n v e = (e, promised reconstructedAnswer reconstructedNumber reconstructedValue component-parts r n v e)
+
+-- one whose delta was refused
 pub component-no : (n m k : ℕ) (v : ReconstructedComponent) → m ≡ n → (m ≡ 0 → ⊥) → C.Refused n ≡ reconstructedAnswer (orElse m k) v
 component-no n zero k v e h = absurd (h refl)
 component-no n (suc m) k v e h = rw (← e)
 
--- ---- an update, taken apart
-isOutcome : Updated → Bool
-isOutcome (U.Outcome o) = true
-isOutcome (U.Refused n) = false
+pub component-refused : (n m : ℕ) (v : ReconstructedComponent) → C.Refused n ≡ reconstructedAnswer m v → (m ≡ n) × (m ≡ 0 → ⊥)
+component-refused n m v e =
+    refused reconstructedAnswer reconstructedNumber reconstructedValue component-parts (C.Refused n) n m v e refl refl
 
-outcomeOr : PmvUpdateOutcome → Updated → PmvUpdateOutcome
-outcomeOr z (U.Outcome o) = o
-outcomeOr z (U.Refused n) = z
+pub component-given : (m : ℕ) (v x : ReconstructedComponent) → C.Component x ≡ reconstructedAnswer m v → (m ≡ 0) × (x ≡ v)
+component-given m v x e = given reconstructedAnswer reconstructedNumber reconstructedValue component-parts (C.Component x) m v x e refl
+
+-- ---- vectors
+vector-parts : (n : ℕ) (v : VectorComponents) → (vectorNumber (vectorAnswer n v) ≡ n) × (vectorValue (vectorAnswer n v) ≡ valueUnless n v)
+vector-parts zero v = (refl, refl)
+vector-parts (suc n) v = (refl, refl)
+
+pub vector-promised : (r : ReconstructedVector) (n : ℕ) (v : VectorComponents)
+    → r ≡ vectorAnswer n v → (vectorNumber r ≡ n) × (vectorValue r ≡ valueUnless (vectorNumber r) v)
+vector-promised r n v e = promised vectorAnswer vectorNumber vectorValue vector-parts r n v e
+
+-- ---- updates
+update-parts : (n : ℕ) (v : PmvUpdateOutcome) → (updateNumber (updateAnswer n v) ≡ n) × (updateValue (updateAnswer n v) ≡ valueUnless n v)
+update-parts zero v = (refl, refl)
+update-parts (suc n) v = (refl, refl)
 
 pub update-no : (m n : ℕ) (o : PmvUpdateOutcome) (p q : Pmv)
     → U.Refused n ≡ updateAnswer m o
     → _≡_ {A = PredictorUpdate}
     (record { answer = U.Refused n; pmv = p })
     (record { answer = updateAnswer m o; pmv = unlessRefused m q p })
-unfolding isOutcome
-update-no zero n o p q e = let z = ap isOutcome e in let y : _≡_ {A = ℕ} 0 1 = cc in absurd (omega arith)
-update-no (suc m) n o p q e = λ i. record { answer = e i; pmv = p }
+update-no m n o p q e =
+    let h = refused updateAnswer updateNumber updateValue update-parts (U.Refused n) n m o e refl refl in
+    let k = sym (kept m q p (h .1)) in
+    λ i. record { answer = e i; pmv = k i }
 
 pub update-yes : (m : ℕ) (o v : PmvUpdateOutcome) (p w : Pmv)
     → U.Outcome v ≡ updateAnswer m o
@@ -116,10 +151,10 @@ pub update-yes : (m : ℕ) (o v : PmvUpdateOutcome) (p w : Pmv)
     → _≡_ {A = PredictorUpdate}
     (record { answer = U.Outcome v; pmv = w })
     (record { answer = updateAnswer m o; pmv = unlessRefused m (after o p) p })
-unfolding isOutcome outcomeOr
-update-yes zero o v p w e f =
-    let g = f ∙ ap (λ (x : PmvUpdateOutcome). after x p) (ap (outcomeOr v) e) in λ i. record { answer = e i; pmv = g i }
-update-yes (suc m) o v p w e f = let z = ap isOutcome e in let y : _≡_ {A = ℕ} 0 1 = cc in absurd (omega arith)
+update-yes m o v p w e f =
+    let h = given updateAnswer updateNumber updateValue update-parts (U.Outcome v) m o v e refl in
+    let k = f ∙ ap (λ (x : PmvUpdateOutcome). after x p) (h .1) ∙ sym (written m (after o p) p (h .0)) in
+    λ i. record { answer = e i; pmv = k i }
 
 pub updated-all : (r : PredictorUpdate) (pmv : Pmv) (x : PmvUpdateContext)
     → r ≡ updated pmv x
@@ -128,4 +163,6 @@ pub updated-all : (r : PredictorUpdate) (pmv : Pmv) (x : PmvUpdateContext)
     × (updateValue (r .answer) ≡ valueUnless (updateNumber (r .answer)) (updateOutcome x)))
 unfolding updated
 updated-all r pmv x e =
-    (e, update-all (r .answer) (updateRefusal x) (updateOutcome x) (ap (λ (u : PredictorUpdate). u .answer) e))
+    (e,
+    promised updateAnswer updateNumber updateValue update-parts (r .answer) (updateRefusal x) (updateOutcome x)
+    (ap (λ (u : PredictorUpdate). u .answer) e))

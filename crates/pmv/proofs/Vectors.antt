@@ -1,7 +1,7 @@
 -- A vector's two parts, one after the other.
 -- Assumes nothing.
 use mathlib.Core.Path.{_≡_, refl, sym, ap, _∙_}
-use mathlib.Core.Bool.{Bool, true, false}
+use mathlib.Core.Bool.{Bool}
 use Prim.Native.Nat.{ℕ, zero, suc}
 use native.Mathlib.Omega.{arith}
 use lib.IntN.{ℤ, pos}
@@ -21,35 +21,23 @@ use Rattle.pmv.specs.declared.kinds.MvFormat.{MvFormat}
 use Rattle.pmv.specs.declared.kinds.PictureStructure.{PictureStructure}
 use Rattle.pmv.specs.declared.component.MotionResidual.{MotionResidual}
 use Rattle.pmv.specs.declared.component.ReconstructedComponent.{ReconstructedComponent}
-use Rattle.pmv.specs.declared.component.Reconstructed.{Reconstructed}
 use Rattle.pmv.specs.declared.component.Reconstructed.the-variants as C
 use Rattle.pmv.specs.declared.predictors.Pmv.{Pmv}
 use Rattle.pmv.specs.declared.vector.MotionVector.{MotionVector}
 use Rattle.pmv.specs.declared.vector.DecodedComponent.{DecodedComponent}
 use Rattle.pmv.specs.declared.vector.VectorComponents.{VectorComponents}
-use Rattle.pmv.specs.declared.vector.ReconstructedVector.{ReconstructedVector}
 use Rattle.pmv.specs.declared.vector.ReconstructedVector.the-variants as Vec
 use Rattle.pmv.specs.declared.vector.DecodedVector.{DecodedVector}
-use Rattle.pmv.proofs.Answers.{component-all}
+use Rattle.pmv.proofs.Answers.{written, kept, component-all, component-refused, component-given, vector-promised}
 
--- ---- a component's answer, taken apart
-isComponent : Reconstructed → Bool
-isComponent (C.Component c) = true
-isComponent (C.Refused n) = false
-
-componentOr : ReconstructedComponent → Reconstructed → ReconstructedComponent
-componentOr z (C.Component c) = c
-componentOr z (C.Refused n) = z
-
--- what the two arms of a match make of an answer and of predictors
+-- ---- what the two arms of a match make of a component's answer and of the predictors
 pub refused-keeps : (n m : ℕ) (c : ReconstructedComponent) (q p : Pmv)
     → C.Refused n ≡ reconstructedAnswer m c
     → _≡_ {A = DecodedComponent}
     (record { answer = C.Refused n; pmv = p })
     (record { answer = reconstructedAnswer m c; pmv = unlessRefused m q p })
-unfolding isComponent
-refused-keeps n zero c q p e = let z = ap isComponent e in let y : _≡_ {A = ℕ} 0 1 = cc in absurd (omega arith)
-refused-keeps n (suc m) c q p e = λ i. record { answer = e i; pmv = p }
+refused-keeps n m c q p e =
+    let k = sym (kept m q p (component-refused n m c e .1)) in λ i. record { answer = e i; pmv = k i }
 
 pub accepted-stores : (m : ℕ) (v c : ReconstructedComponent) (r : VectorIndex) (s : Direction) (t : Component) (w p : Pmv)
     → C.Component v ≡ reconstructedAnswer m c
@@ -57,11 +45,13 @@ pub accepted-stores : (m : ℕ) (v c : ReconstructedComponent) (r : VectorIndex)
     → _≡_ {A = DecodedComponent}
     (record { answer = C.Component v; pmv = w })
     (record { answer = reconstructedAnswer m c; pmv = unlessRefused m (stored p r s t (c .«new_pmv»)) p })
-unfolding isComponent componentOr
-accepted-stores zero v c r s t w p e f =
-    let g = f ∙ ap (λ (x : ReconstructedComponent). stored p r s t (x .«new_pmv»)) (ap (componentOr v) e) in
-    λ i. record { answer = e i; pmv = g i }
-accepted-stores (suc m) v c r s t w p e f = let z = ap isComponent e in let y : _≡_ {A = ℕ} 0 1 = cc in absurd (omega arith)
+accepted-stores m v c r s t w p e f =
+    let h = component-given m c v e in
+    let k =
+    f
+    ∙ ap (λ (x : ReconstructedComponent). stored p r s t (x .«new_pmv»)) (h .1)
+    ∙ sym (written m (stored p r s t (c .«new_pmv»)) p (h .0)) in
+    λ i. record { answer = e i; pmv = k i }
 
 -- the named promises of a decoded component, from the whole
 pub decoded-all : (d : DecodedComponent) (p : Pmv) (r : VectorIndex) (s : Direction) (t : Component) (k : ℕ) (z : ℤ) (m : MotionResidual) (h : Bool)
@@ -91,29 +81,22 @@ stored-other p r s v = getD-set-other (p .values) (pmvIndex r s Horizontal) (pmv
 
 -- the whole, from the two answers
 whole : (n m : ℕ) (h v x : ReconstructedComponent) (p q b : Pmv)
-    → C.Component x ≡ reconstructedAnswer n h
+    → n ≡ 0
+    → x ≡ h
     → _≡_ {A = DecodedVector}
     (joined x (record { answer = reconstructedAnswer m v; pmv = unlessRefused m b q }))
     (record { answer = vectorAnswer (orElse n m) (record { horizontal = h; vertical = v }); pmv = unlessRefused n (unlessRefused m b q) p })
-unfolding isComponent componentOr
-whole zero zero h v x p q b e =
-    let g = ap (componentOr x) e in λ i. record { answer = Vec.Components (record { horizontal = g i; vertical = v }); pmv = b }
-whole zero (suc m) h v x p q b e = refl
-whole (suc n) m h v x p q b e = let z = ap isComponent e in let y : _≡_ {A = ℕ} 0 1 = cc in absurd (omega arith)
+whole n zero h v x p q b e f = rw (e, f)
+whole n (suc m) h v x p q b e f = rw e
 
-first-refused : (k n m : ℕ) (h : ReconstructedComponent) (c : VectorComponents) (p q t : Pmv)
-    → C.Refused k ≡ reconstructedAnswer n h
+first-refused : (k n m : ℕ) (c : VectorComponents) (p q t : Pmv)
+    → n ≡ k
+    → (n ≡ 0 → ⊥)
     → _≡_ {A = DecodedVector}
     (record { answer = Vec.Refused k; pmv = unlessRefused n q p })
     (record { answer = vectorAnswer (orElse n m) c; pmv = unlessRefused n t p })
-unfolding isComponent
-first-refused k zero m h c p q t e = let z = ap isComponent e in let y : _≡_ {A = ℕ} 0 1 = cc in absurd (omega arith)
-first-refused k (suc n) m h c p q t e = let g = ap reconstructedNumber e in λ i. record { answer = Vec.Refused (g i); pmv = p }
-
-first-kept : (n : ℕ) (h x : ReconstructedComponent) (p q : Pmv) → C.Component x ≡ reconstructedAnswer n h → unlessRefused n q p ≡ q
-unfolding isComponent
-first-kept zero h x p q e = refl
-first-kept (suc n) h x p q e = let z = ap isComponent e in let y : _≡_ {A = ℕ} 0 1 = cc in absurd (omega arith)
+first-refused k zero m c p q t e h = absurd (h refl)
+first-refused k (suc n) m c p q t e h = rw (← e)
 
 module _ (p : Pmv) (mv : MotionVector) (r : VectorIndex) (s : Direction) (fh fv : ℕ) (m : MvFormat) (u : PictureStructure) where
   abbrev horizontal : DecodedComponent
@@ -160,7 +143,8 @@ module _ (p : Pmv) (mv : MotionVector) (r : VectorIndex) (s : Direction) (fh fv 
   unfolding decoded reconstructed
   after-refused d n e f =
       ap (λ (x : DecodedComponent). record { answer = Vec.Refused n; pmv = x .pmv }) e
-      ∙ first-refused n nh nv (cs .horizontal) cs p hs (unlessRefused nv (bothStored p mv r s fh fv m u) hs) (sym f ∙ ap (λ (x : DecodedComponent). x .answer) e)
+      ∙ (let h = component-refused n nh (cs .horizontal) (sym f ∙ ap (λ (x : DecodedComponent). x .answer) e) in
+      first-refused n nh nv cs p hs (unlessRefused nv (bothStored p mv r s fh fv m u) hs) (h .0) (h .1))
 
   pub after-given : (d : DecodedComponent) (h : ReconstructedComponent) (w : DecodedVector)
       → d ≡ horizontal
@@ -169,12 +153,12 @@ module _ (p : Pmv) (mv : MotionVector) (r : VectorIndex) (s : Direction) (fh fv 
       → w ≡ reconstructed p mv r s fh fv m u ported
   unfolding decoded reconstructed
   after-given d h w e f g =
-      let y = sym f ∙ ap (λ (x : DecodedComponent). x .answer) e in
-      let k = ap (λ (x : DecodedComponent). x .pmv) e ∙ first-kept nh (cs .horizontal) h p hs y in
+      let y = component-given nh (cs .horizontal) h (sym f ∙ ap (λ (x : DecodedComponent). x .answer) e) in
+      let k = ap (λ (x : DecodedComponent). x .pmv) e ∙ written nh hs p (y .0) in
       g
       ∙ ap (λ (q : Pmv). joined h (vertical q)) k
       ∙ ap (joined h) vertical-is
-      ∙ whole nh nv (cs .horizontal) (cs .vertical) h p hs (bothStored p mv r s fh fv m u) y
+      ∙ whole nh nv (cs .horizontal) (cs .vertical) h p hs (bothStored p mv r s fh fv m u) (y .0) (y .1)
 
   -- the named promises of a vector, from the whole
   pub vector-all : (d : DecodedVector)
@@ -183,11 +167,4 @@ module _ (p : Pmv) (mv : MotionVector) (r : VectorIndex) (s : Direction) (fh fv 
       × ((vectorNumber (d .answer) ≡ vectorRefusal p mv r s fh fv m u ported)
       × (vectorValue (d .answer) ≡ valueUnless (vectorNumber (d .answer)) cs))
   unfolding reconstructed
-  vector-all d e = (e, at (d .answer) (orElse nh nv) (ap (λ (x : DecodedVector). x .answer) e))
-    where
-      parts : (n : ℕ) → (vectorNumber (vectorAnswer n cs) ≡ n) × (vectorValue (vectorAnswer n cs) ≡ valueUnless (vectorNumber (vectorAnswer n cs)) cs)
-      parts zero = (refl, refl)
-      parts (suc n) = (refl, refl)
-
-      at : (a : ReconstructedVector) (n : ℕ) → a ≡ vectorAnswer n cs → (vectorNumber a ≡ n) × (vectorValue a ≡ valueUnless (vectorNumber a) cs)
-      at a n q = rw q (parts n)
+  vector-all d e = (e, vector-promised (d .answer) (orElse nh nv) cs (ap (λ (x : DecodedVector). x .answer) e))
