@@ -1132,9 +1132,10 @@ each kind: a delta without its sign; high as 16f; prior 48 reduced modulo 32; th
 in the other component's place; the horizontal predictor restored after a vertical refusal;
 chroma floored; second copied to first; a reset in an I picture; the other component read; a
 predictor that a reset leaves; a new predictor that is not 0. Wrong numbers: 3 where 2 is
-right; 1 for an f_code that is taken; 6 where 5 is right; 4 for a component that is accepted;
-the vertical part's 5 where both are refused; 8 where 7 is right. Off by one: every other value
-of a call, and a predictor after it",
+right; 1 for an f_code that is taken, and 2 where 1 is right; 6 where 5 is right, also decoded; 4
+for a component that is accepted; the vertical part's 5 where both are refused; 8 where 7 is
+right. Off by one: every other value of a call, a predictor after it, and each of the eight after
+a reset",
     );
     let mut signless = Delta::ask(coded(-3, Some(1), 2));
     signless.answer = Ok([6]);
@@ -1218,17 +1219,21 @@ fn wrong_numbers(maker: &mut Maker, context: PmvUpdateContext) {
     delta.answer = Err(3);
     maker.list.case(delta);
 
-    let mut limits = Limits::ask(9);
-    limits.answer = Err(1);
-    maker.list.case(limits);
+    for (f_code, number) in [(9, 1), (0, 2)] {
+        let mut limits = Limits::ask(f_code);
+        limits.answer = Err(number);
+        maker.list.case(limits);
+    }
 
     let mut component = Reconstruction::ask(coded(16, None, 1), 48, PLAIN, Component::Vertical);
     component.answer = Err(6);
     maker.list.case(component);
 
-    let mut decoding = Decoding::ask(before, place, coded(1, Some(0), 2));
-    decoding.answer = Err(4);
-    maker.list.case(decoding);
+    for (code, number) in [(coded(1, Some(0), 2), 4), (coded(16, None, 1), 6)] {
+        let mut decoding = Decoding::ask(before, place, code);
+        decoding.answer = Err(number);
+        maker.list.case(decoding);
+    }
 
     let [horizontal, vertical] = [coded(2, None, 2), coded(16, None, 1)];
     let mut vector = vector_case(before, SLOTS[0], PLAIN, horizontal, vertical);
@@ -1301,6 +1306,12 @@ fn wrong_values(maker: &mut Maker, context: PmvUpdateContext) {
     let mut set = GetAndSet::ask(before, place, 11);
     off(&mut set.after);
     maker.list.case(set);
+
+    for Place { r, s, t } in all_places() {
+        let mut reset = Reset::ask(before);
+        reset.after.set(r, s, t, 1);
+        maker.list.case(reset);
+    }
 }
 
 fn raise<const N: usize>(answer: &mut Answer<N>, value: usize) {
