@@ -3,7 +3,7 @@
 use mathlib.Core.Path.{_≡_, refl, sym, ap, _∙_}
 use mathlib.Core.Bool.{true, false}
 use mathlib.Core.List.{List}
-use Prim.Native.Nat.{ℕ, _+_, _-_, _*_, _/_, _%_, _≤_, _<_}
+use Prim.Native.Nat.{ℕ, zero, suc, _+_, _-_, _*_, _/_, _%_, _≤_, _<_}
 use native.Mathlib.Nat.{zero-add, one-mul, mul-comm, mul-le-mul, mul-le-mul-right, suc-mul, mod-lt, div-lt-iff-lt-mul}
 use native.Mathlib.Numerals.{add-one}
 use native.Mathlib.Omega.{arith}
@@ -11,16 +11,17 @@ use lib.Arith.{digits-lt, digits-div, digits-mod}
 use lib.Dec.{leb}
 use lib.IntN.{ℤ, pos, negsuc, _+ℤ_, +ℤ-assoc}
 use lib.ListN.{length, getD, take, drop}
-use lib.Seq.{length-take-le}
+use lib.Seq.{length-take-le, take-at, getD-take}
 use borrow.Author.Tests.{leb-true}
 use Rattle.laws.specs.Tabulate.{tabulate}
 use Rattle.laws.proofs.Signed.{zp, zn, eq-z, add-z}
-use Rattle.laws.proofs.Tabulated.{tab-ext, length-tab, getD-tab}
+use Rattle.laws.proofs.Tabulated.{tab-ext, length-tab, getD-tab, tab-append, tab-self}
 use Rattle.laws.proofs.Parts.{part-length, part-at}
 use Rattle.forming_predictions.specs.Lines.{clampTo}
 use Rattle.forming_predictions.specs.Forming.{blockOf}
-use Rattle.forming_predictions.specs.inner.Views.{lineStart, viewRead, spread, fourOf, lineCell, picked, columnAt, insideOf, ViewFits, BlockFits, RowFits, Inside, ColumnsFit, FetchFits, RegionFits}
+use Rattle.forming_predictions.specs.inner.Views.{lineStart, viewRead, spread, fourOf, lineCell, picked, columnAt, insideOf, ViewFits, BlockFits, Eights, RowFits, Inside, ColumnsFit, FetchFits, RegionFits}
 use Rattle.forming_predictions.proofs.Lines.{clamp-in, clamp-lt}
+use Rattle.forming_predictions.proofs.Views.{empty-read}
 use Rattle.forming_predictions.proofs.RowMeans.{mean4-same}
 
 -- row r of a block of w columns and h rows, in a buffer
@@ -32,6 +33,12 @@ next-row r w = rw (add-one r) (suc-mul r w)
 
 pub all-rows : (r h w : ℕ) → r ≡ h → r * w ≡ w * h
 all-rows r h w e = rw e (mul-comm h w)
+
+-- a part of a slice, as what its reads tabulate
+pub part-tab : (s : List ℕ) (a n : ℕ) → a + n ≤ length s → take (a + n - a) (drop a s) ≡ tabulate n (λ (k : ℕ). getD s (a + k) 0)
+part-tab s a n h =
+    let long : length (take (a + n - a) (drop a s)) ≡ n = part-length s a (a + n) h ∙ omega arith in
+    sym (tab-self (take (a + n - a) (drop a s))) ∙ rw long (tab-ext n _ _ (λ k l. part-at s a (a + n) k (omega arith)))
 
 -- sample c of row r
 pub row-of-block : (rule : ℤ → ℤ → ℕ) (x y : ℤ) (w r c : ℕ) → c < w
@@ -113,7 +120,7 @@ module _ {s columns : List ℕ} {w first step count : ℕ} (f : ViewFits s w fir
   pub fetch-columns : ColumnsFit columns (length (take (a + w - a) (drop a s)))
   fetch-columns =
       let l = part-length s a (a + w) fetch-room in
-      record { few = g .few; some = g .some; inside = λ k h. omega (arith, g .inside k h) }
+      record { some = g .some; few = g .few; more = g .more; inside = λ k h. omega (arith, g .inside k h) }
 
   pub fetch-cells : (k : ℕ) → k < length columns
       → getD (take (a + w - a) (drop a s)) (getD columns k 0) 0 ≡ picked s w first step count columns y k
@@ -122,14 +129,20 @@ module _ {s columns : List ℕ} {w first step count : ℕ} (f : ViewFits s w fir
       part-at s a (a + w) (getD columns k 0) (omega (arith, g .inside k h)) ∙ ap (λ (j : ℕ). getD s (j + getD columns k 0) 0) p
 
 -- the clamped columns of a block are inside the row
-pub columns-fit : {columns : List ℕ} {w n : ℕ} (x : ℤ) → columns ≡ tabulate n (columnAt w x) → n ≤ 17 → 0 < n → 0 < w → ColumnsFit columns w
+pub columns-inside : {columns : List ℕ} {w : ℕ} (n : ℕ) (x : ℤ) → columns ≡ tabulate n (columnAt w x) → 0 < w
+    → (k : ℕ) → k < length columns → getD columns k 0 < w
 unfolding columnAt
-columns-fit {columns} {w} {n} x e p q r =
+columns-inside {columns} {w} n x e r k h =
     let l : length columns ≡ n = ap length e ∙ length-tab n (columnAt w x) in
+    rw (e, getD-tab n (columnAt w x) k 0 (omega arith)) (clamp-lt w (x +ℤ pos k) r)
+
+pub fetch-fits : {columns region : List ℕ} {w bw : ℕ} (x : ℤ) → columns ≡ tabulate (bw + 1) (columnAt w x) → length region ≡ (bw + 1) * 17 → 0 < w
+    → FetchFits columns region w bw
+fetch-fits {columns} {region} {w} {bw} x e r p =
     record {
-      few = omega arith;
-      some = omega arith;
-      inside = λ k h. rw (e, getD-tab n (columnAt w x) k 0 (omega arith)) (clamp-lt w (x +ℤ pos k) r);
+      columns-count = ap length e ∙ length-tab (bw + 1) (columnAt w x);
+      region-count = r;
+      inside = columns-inside (bw + 1) x e p;
     }
 
 -- and what is picked in them is what the view reads
@@ -156,6 +169,19 @@ spread-cong f g a b c d dx dy p q r t = rw (p, q, r, t)
 pub block-row : (w h k : ℕ) → 0 < w → k < w * h → k / w < h
 block-row w h k p q = div-lt-iff-lt-mul p .1 (rw (mul-comm h w) q)
 
+pub region-view : {dx dy bw bh : ℕ} {o : List ℕ} (region : List ℕ) → BlockFits dx dy bw bh o → length region ≡ (bw + dx) * (bh + dy)
+    → ViewFits region (bw + dx) 0 1 (bh + dy)
+region-view {dx} {dy} {bw} {bh} region b e =
+    record {
+      some = omega (arith, b .some);
+      wide = omega (arith, b .wide, b .right);
+      low = omega arith;
+      apart = omega arith;
+      lines = omega (arith, b .tall);
+      high = omega (arith, b .high, b .down);
+      room = λ j i. rw (zero-add (1 * j), one-mul j) (omega (arith, e, row-in j (bh + dy) (bw + dx) i));
+    }
+
 module _ (s : List ℕ) (w first step count : ℕ) (x y : ℤ) (dx dy bw bh : ℕ) (region : List ℕ)
     (e : region ≡ blockOf (bw + dx) (bh + dy) (viewRead s w first step count) x y) where
   abbrev there : ℤ → ℤ → ℕ
@@ -166,22 +192,6 @@ module _ (s : List ℕ) (w first step count : ℕ) (x y : ℤ) (dx dy bw bh : �
 
   abbrev H : ℕ
   H = bh + dy
-
-  region-length : length region ≡ W * H
-  unfolding blockOf
-  region-length = ap length e ∙ length-tab (W * H) _
-
-  pub region-view : 0 < bw → bw ≤ 16 → 0 < bh → bh ≤ 16 → dx ≤ 1 → dy ≤ 1 → ViewFits region W 0 1 H
-  region-view a b c d f g =
-      record {
-        some = omega arith;
-        wide = omega arith;
-        low = omega arith;
-        apart = omega arith;
-        lines = omega arith;
-        high = omega arith;
-        room = λ j i. rw (zero-add (1 * j), one-mul j) (omega (arith, region-length, row-in j H W i));
-      }
 
   region-read : (i j : ℕ) → i < W → j < H → viewRead region W 0 1 H (pos i) (pos j) ≡ there (x +ℤ pos i) (y +ℤ pos j)
   unfolding viewRead blockOf
@@ -244,43 +254,64 @@ inside-yes (pos a) n limit e = (refl, leb-true (a + n) limit e)
 inside-yes (negsuc a) n limit e = let z : _≡_ {A = ℕ} 0 1 = cc in absurd (omega arith)
 
 -- how much a block reads at most
-pub region-most : {dx dy bw bh : ℕ} {o : List ℕ} → BlockFits dx dy bw bh o → (bw + dx) * (bh + dy) ≤ 289
+pub region-most : {dx dy bw bh : ℕ} {o : List ℕ} → BlockFits dx dy bw bh o → (bw + dx) * (bh + dy) ≤ (bw + 1) * 17
 region-most {dx} {dy} {bw} {bh} b =
-    let p : bw + dx ≤ 17 = omega (arith, b .wide, b .right) in
+    let p : bw + dx ≤ bw + 1 = omega (arith, b .right) in
     let q : bh + dy ≤ 17 = omega (arith, b .high, b .down) in
     mul-le-mul p q
 
--- fronts of local arrays, as room for what a block reads
+-- ---- fronts of local arrays: the columns that a block reads, and room for its samples
 pub front : (l : List ℕ) (n : ℕ) → n ≤ length l → length (take (n - 0) l) ≡ n
 front l n h = length-take-le (n - 0) l (omega arith) ∙ omega arith
 
-pub front-fetch : (l : List ℕ) {o : List ℕ} {dx dy bw bh : ℕ} → BlockFits dx dy bw bh o → length l ≡ 17 → FetchFits (take (bw - 0) l) bh o
-front-fetch l {o} {dx} {dy} {bw} {bh} b e =
-    let long = front l bw (omega (arith, b .wide)) in
-    record {
-      few = omega (arith, b .wide);
-      some = omega (arith, b .some);
-      high = omega (arith, b .high);
-      count = rw long (b .count);
-    }
+pub front-tab : (m n : ℕ) (f : ℕ → ℕ) → m ≤ n → take (m - 0) (tabulate n f) ≡ tabulate m f
+front-tab m n f h =
+    let all : n ≡ m + (n - m) = omega arith in
+    let here : m - 0 ≡ m = omega arith in
+    rw (here, all, ← tab-append m (n - m) f) (take-at (tabulate m f) _ m (length-tab m f))
 
-pub front-region : (c r : List ℕ) {o : List ℕ} {dx dy bw bh : ℕ} → BlockFits dx dy bw bh o → length c ≡ 17 → length r ≡ 289
-    → RegionFits (take (bw + dx - 0) c) (take ((bw + dx) * (bh + dy) - 0) r) dx dy bw bh
-front-region c r {o} {dx} {dy} {bw} {bh} b e f =
-    record {
-      columns-count = front c (bw + dx) (omega (arith, b .wide, b .right));
-      region-count = front r ((bw + dx) * (bh + dy)) (omega (arith, region-most b));
-    }
+not-eight : (bw dx n : ℕ) → dx ≤ 1 → n ≡ bw + dx → (n ≡ 8 → ⊥) → (n ≡ 9 → ⊥) → bw ≡ 8 → ⊥
+not-eight bw zero n h l p q e = p (omega arith)
+not-eight bw (suc zero) n h l p q e = q (omega arith)
+not-eight bw (suc (suc dx)) n h l p q e = omega arith
 
--- a block without means
-pub plain-fits : {dx dy bw bh : ℕ} {o : List ℕ} → BlockFits dx dy bw bh o → BlockFits 0 0 bw bh o
-plain-fits b =
-    record {
-      right = omega arith;
-      down = omega arith;
-      some = b .some;
-      wide = b .wide;
-      tall = b .tall;
-      high = b .high;
-      count = b .count;
-    }
+module _ {columns region : List ℕ} {w dx dy bw bh : ℕ} {o : List ℕ} (f : FetchFits columns region w bw) (b : BlockFits dx dy bw bh o) where
+  pub front-columns-length : length (take (bw + dx - 0) columns) ≡ bw + dx
+  front-columns-length = front columns (bw + dx) (omega (arith, f .columns-count, b .right))
+
+  pub front-columns : Eights bw → ColumnsFit (take (bw + dx - 0) columns) w
+  front-columns e =
+      let l = front-columns-length in
+      record {
+        some = omega (arith, e .some);
+        few = omega (arith, e .wide, b .right);
+        more = λ p q. omega (arith, e .more (not-eight bw dx (length (take (bw + dx - 0) columns)) (b .right) l p q));
+        inside = λ k h. rw (getD-take (bw + dx - 0) columns k 0 (omega arith)) (f .inside k (omega (arith, f .columns-count, b .right)));
+      }
+
+  pub front-region : RegionFits (take (bw + dx - 0) columns) (take ((bw + dx) * (bh + dy) - 0) region) dx dy bw bh
+  front-region =
+      record {
+        columns-count = front-columns-length;
+        region-count = front region ((bw + dx) * (bh + dy)) (omega (arith, region-most b, f .region-count));
+      }
+
+-- ---- a block that is cut out of a larger one
+pub crop-block : (rule : ℤ → ℤ → ℕ) (x y : ℤ) (bw bh : ℕ) {wide : List ℕ} → wide ≡ blockOf 16 16 rule x y → 0 < bw → bw ≤ 16 → bh ≤ 16
+    → tabulate (bw * bh) (λ (k : ℕ). getD wide (k / bw * 16 + k % bw) 0) ≡ blockOf bw bh rule x y
+unfolding blockOf
+crop-block rule x y bw bh {wide} e p q r =
+    tab-ext (bw * bh) _ _
+    (λ k h.
+    let row : k / bw < 16 = omega (arith, block-row bw bh k p h) in
+    let column : k % bw < 16 = omega (arith, mod-lt k p) in
+    rw e
+    (block-at 16 16 rule x y (k / bw * 16 + k % bw) (digits-lt row column) ∙ rw (digits-div (k / bw) column, digits-mod (k / bw) column)))
+
+-- ---- a block of a view without samples
+pub empty-block : (s : List ℕ) (w first step count : ℕ) (x y : ℤ) (dx dy bw bh : ℕ) → length s ≡ 0
+    → tabulate (bw * bh) (λ (k : ℕ). 0) ≡ blockOf bw bh (λ (a b : ℤ). spread (viewRead s w first step count) a b dx dy) x y
+unfolding blockOf spread
+empty-block s w first step count x y dx dy bw bh e =
+    let none : (a b : ℤ) → viewRead s w first step count a b ≡ 0 = λ a b. empty-read s w first step count a b e in
+    tab-ext (bw * bh) _ _ (λ k p. rw (none _ _, none _ _, none _ _, none _ _))

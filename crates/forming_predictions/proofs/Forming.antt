@@ -6,6 +6,7 @@ use mathlib.Core.List.{List}
 use Prim.Native.Nat.{ℕ, _+_, _*_, _/_, _%_, _<_}
 use native.Mathlib.Omega.{arith}
 use lib.IntN.{ℤ, pos, _+ℤ_}
+use lib.ListN.{length}
 use mir.Syntax.{w32}
 use mir.Val.{SFits}
 use Rattle.laws.specs.Tabulate.{tabulate}
@@ -19,7 +20,7 @@ use Rattle.forming_predictions.specs.Forming.{combined, formed, blockOf}
 use Rattle.forming_predictions.specs.inner.Views.{viewRead, spread, bitOf, Reach, ReadsAs, rowsSample}
 use Rattle.forming_predictions.specs.declared.Rows.{Rows}
 use Rattle.forming_predictions.proofs.Splitting.{floor-within}
-use Rattle.forming_predictions.proofs.Views.{rows-sample, some-sample, no-sample}
+use Rattle.forming_predictions.proofs.Views.{rows-sample, some-sample, no-sample, rows-read}
 use Rattle.forming_predictions.proofs.RowMeans.{mean4-same, mean4-pair, mean4-twice}
 use Rattle.forming_predictions.proofs.Blocks.{plus-none, block-ext}
 
@@ -81,12 +82,12 @@ pub view-formed : (r : Rows) (w height : ℕ) (s : List ℕ) (x y h v : ℤ) →
 view-formed r w height s x y h v p q =
     sym (formed-spread _ x y h v) ∙ formed-ext rounded _ _ x y h v (λ a b. sym (some-sample r w height s a b p q))
 
-pub view-block : (r : Rows) (w height : ℕ) (s : List ℕ) (bw bh : ℕ) (x y h v : ℤ) → 0 < w → 0 < height
+pub view-block : (r : Rows) (w height : ℕ) (s : List ℕ) (bw bh : ℕ) (x y h v : ℤ) → length s ≡ w * height
     → blockOf bw bh (λ (a b : ℤ). spread (viewRead s w (r .first) (r .step) (r .count)) a b (bitOf (halfFlag h)) (bitOf (halfFlag v))) (x +ℤ floorHalf h) (y +ℤ floorHalf v)
     ≡ blockOf bw bh (λ (a b : ℤ). formed rounded (rowsSample r w height s) a b h v) x y
-view-block r w height s bw bh x y h v p q =
+view-block r w height s bw bh x y h v e =
     moved-block _ bw bh x y h v
-    ∙ block-ext bw bh _ _ x y (λ a b. formed-ext rounded _ _ a b h v (λ c d. sym (some-sample r w height s c d p q)))
+    ∙ block-ext bw bh _ _ x y (λ a b. formed-ext rounded _ _ a b h v (λ c d. sym (rows-read r w height s c d e)))
 
 -- a plane without: every mean of zeros is 0
 zero-combined : (x y : ℤ) (p q : Bool) → combined rounded (λ (a b : ℤ). 0) x y p q ≡ 0
@@ -104,12 +105,6 @@ pub empty-formed : (r : Rows) (w height : ℕ) (s : List ℕ) (x y h v : ℤ) �
     → formed rounded (rowsSample r w height s) x y h v ≡ 0
 empty-formed r w height s x y h v e =
     formed-ext rounded _ (λ (a b : ℤ). 0) x y h v (λ a b. no-sample r w height s a b e) ∙ zero-formed x y h v
-
-pub empty-block : (r : Rows) (w height : ℕ) (s : List ℕ) (bw bh : ℕ) (x y h v : ℤ) → w * height ≡ 0
-    → tabulate (bw * bh) (λ (k : ℕ). 0) ≡ blockOf bw bh (λ (a b : ℤ). formed rounded (rowsSample r w height s) a b h v) x y
-unfolding blockOf
-empty-block r w height s bw bh x y h v e =
-    tab-ext (bw * bh) _ _ (λ k p. sym (empty-formed r w height s (x +ℤ pos (k % bw)) (y +ℤ pos (k / bw)) h v e))
 
 -- ---- a position moved by a vector's whole part can be stepped on from
 pub moved-reach : {x v : ℤ} → Within 32782 x → SFits w32 v → Reach (x +ℤ floorHalf v)

@@ -4,6 +4,7 @@ pub mod Lines
 pub mod Views
 pub mod RowMeans
 pub mod Blocks
+pub mod Eights
 pub mod Forming
 pub mod Refusals
 pub mod SampleAnswers

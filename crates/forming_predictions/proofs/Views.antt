@@ -1,8 +1,8 @@
 -- Laws of views: what lies in a plane, and that the view of a frame or field reads as document 01 says.
 -- Assumes nothing.
-use mathlib.Core.Path.{_≡_, refl, ap, sym}
+use mathlib.Core.Path.{_≡_, refl, ap, sym, _∙_}
 use mathlib.Core.Bool.{_||_, cond}
-use mathlib.Core.List.{List}
+use mathlib.Core.List.{List, [], _∷_}
 use Prim.Native.Nat.{ℕ, zero, suc, _+_, _*_, _≤_, _<_}
 use native.Mathlib.Nat.{zero-mul, mul-zero, mul-comm, mul-le-mul, mul-le-mul-right, suc-mul}
 use native.Mathlib.Omega.{arith}
@@ -14,7 +14,7 @@ use mir.Syntax.{w32, w64}
 use mir.Val.{SFits, Fits}
 use Rattle.laws.proofs.Signed.{add-z, sfits-hi, sfits-lo, sfits-z}
 use Rattle.forming_predictions.specs.Lines.{Lines, frame, field, fieldLines, clampTo, rowOf, sampleAt}
-use Rattle.forming_predictions.specs.inner.Views.{lineStart, viewRead, ViewFits, Reach, RowsFit, ReadsAs, rowsSample}
+use Rattle.forming_predictions.specs.inner.Views.{lineStart, viewRead, ViewFits, Readable, Reach, RowsFit, ReadsAs, rowsSample}
 use Rattle.forming_predictions.specs.declared.FieldParity.the-variants.{Top, Bottom}
 use Rattle.forming_predictions.specs.declared.Rows.{Rows}
 use Rattle.forming_predictions.proofs.Lines.{clamp-is, clamp-lt, top-lines, bottom-lines, frame-row, field-row, empty-field}
@@ -85,6 +85,31 @@ no-sample r (suc w) (suc h) s x y e = absurd (omega (arith, e, mul-comm (suc w) 
 pub some-sample : (r : Rows) (w h : ℕ) (s : List ℕ) (x y : ℤ) → 0 < w → 0 < h → rowsSample r w h s x y ≡ viewRead s w (r .first) (r .step) (r .count) x y
 unfolding rowsSample
 some-sample r w h s x y p q = rw (ne-eqb w 0 (λ e. omega arith), ne-eqb h 0 (λ e. omega arith))
+
+-- a view without samples reads 0
+nothing : (s : List ℕ) (k : ℕ) → length s ≡ 0 → getD s k 0 ≡ 0
+nothing [] k e = refl
+nothing (a ∷ s) k e = absurd (omega arith)
+
+pub empty-read : (s : List ℕ) (w first step count : ℕ) (x y : ℤ) → length s ≡ 0 → viewRead s w first step count x y ≡ 0
+unfolding viewRead
+empty-read s w first step count x y e = nothing s _ e
+
+-- so that a plane is always read through its view
+pub rows-read : (r : Rows) (w h : ℕ) (s : List ℕ) (x y : ℤ) → length s ≡ w * h → rowsSample r w h s x y ≡ viewRead s w (r .first) (r .step) (r .count) x y
+rows-read r zero h s x y e =
+    no-sample r zero h s x y (zero-mul h) ∙ sym (empty-read s zero (r .first) (r .step) (r .count) x y (e ∙ zero-mul h))
+rows-read r (suc w) zero s x y e =
+    no-sample r (suc w) zero s x y (mul-zero (suc w)) ∙ sym (empty-read s (suc w) (r .first) (r .step) (r .count) x y (e ∙ mul-zero (suc w)))
+rows-read r (suc w) (suc h) s x y e = some-sample r (suc w) (suc h) s x y (omega arith) (omega arith)
+
+pub rows-readable : {r : Rows} {s : List ℕ} {w h : ℕ} → RowsFit r h → w ≤ 16384 → h ≤ 16384 → length s ≡ w * h
+    → Readable s w (r .first) (r .step) (r .count)
+rows-readable {r} {s} {w} {h} f p q e =
+    record {
+      view = λ l. rows-view f p q e l;
+      some = λ a b. let c : 1 ≤ h = omega (arith, f .few) in omega (arith, mul-le-mul a c);
+    }
 
 -- ---- the three views of a plane of h rows
 pub frame-reads : (h : ℕ) → ReadsAs frame h (record { first = 0; step = 1; count = h })

@@ -6,6 +6,7 @@ ghost use mathlib.Core.Path.{_≡_};
 ghost use mathlib.Core.Bool.{not, _||_};
 ghost use Prim.Native.Nat.{ℕ, _+_, _*_, _/_, _%_, _≤_, _<_};
 ghost use lib.IntN.{ℤ, pos, _+ℤ_};
+ghost use lib.Dec.{eqb};
 ghost use lib.ListN.{length, getD};
 ghost use Rattle.laws.specs.Tabulate.{tabulate};
 ghost use Rattle.laws.proofs.Bounded.{Within};
@@ -19,7 +20,7 @@ ghost use Rattle.forming_predictions.specs.Forming.{formed, blockOf, pre
 ghost use Rattle.forming_predictions.specs.Refusals.{outsideDomain, planeFits, positionFits, blockSideFits, planeRefusal, sampleRefusal, blockRefusal};
 ghost use Rattle.forming_predictions.specs.SampleAnswers.{sampleNumber, sampleValue, valueUnless, sampleAnswer};
 ghost use Rattle.forming_predictions.specs.BlockAnswers.{blockNumber, blockAnswer};
-ghost use Rattle.forming_predictions.specs.inner.Views.{lineStart, viewRead, spread, twoOf, fourOf, lineCell, picked, columnAt, viewBlock, ViewFits, BlockFits, RowFits, Inside, ColumnsFit, FetchFits, RegionFits, insideOf, Reach, RowsFit, ReadsAs, rowsSample, bitOf};
+ghost use Rattle.forming_predictions.specs.inner.Views.{lineStart, viewRead, spread, twoOf, fourOf, lineCell, pickedOf, picked, columnAt, viewBlock, ViewFits, Readable, BlockFits, Eights, RowFits, Inside, ColumnsFit, FetchFits, RegionFits, insideOf, Reach, RowsFit, ReadsAs, rowsSample, bitOf};
 
 /// Refusal: a plane's length is not width times height, or a side or a position is outside the domain.
 pub const OUTSIDE_DOMAIN: u8 = 14;
@@ -381,47 +382,80 @@ fn mean4_samples(a: &[u8], b: &[u8], c: &[u8], d: &[u8], out: &mut [u8])
     }
 }
 
-/// Two samples each, which are one where `dx` is 0 and the rows are the same. A row of 16 goes through a local array: there the loop has a fixed length and writes nothing that it might read,
-/// and it compiles to a few instructions.
-fn two_row(row: &[u8], below: &[u8], x: usize, dx: usize, out: &mut [u8])
-    requires { ⌜ RowFits (now row) (now below) x dx (length (now out)) ⌝ }
-    ensures { λ r. ⌜ now (out .exit) ≡ tabulate (length (now (out .entry))) (twoOf (now (row .entry)) (now (below .entry)) x dx) ⌝ }
+/// The loop has a fixed length, so that it is unrolled before `from` is known to be a local array; copied as a whole, the eight samples
+/// would be one number, put together sample by sample.
+fn copy_eight(from: &[u8], out: &mut [u8])
+    requires { ⌜ (length (now from) ≡ 8) × (length (now out) ≡ 8) ⌝ }
+    ensures { λ r. ⌜ now (out .exit) ≡ now (from .entry) ⌝ }
 {
-    let n = out.len();
-    let right = x + dx;
-    let e = x + n;
-    let f = right + n;
-    if n == 16 {
-        let mut local = [0u8; 16];
-        mean2_samples(&row[x..e], &below[right..f], &mut local);
-        copy_samples(&local, out);
-        return;
+    let mut k: usize = 0;
+    while k < 8 {
+        out[k] = from[k];
+        k += 1;
     }
-    mean2_samples(&row[x..e], &below[right..f], out);
 }
 
-/// Four samples each.
-fn four_row(row: &[u8], below: &[u8], x: usize, dx: usize, out: &mut [u8])
-    requires { ⌜ RowFits (now row) (now below) x dx (length (now out)) ⌝ }
-    ensures { λ r. ⌜ now (out .exit) ≡ tabulate (length (now (out .entry))) (fourOf (now (row .entry)) (now (below .entry)) x dx) ⌝ }
+/// Eight means of two samples. They go through a local array: there the loop has a fixed length and writes nothing that it might read, and
+/// it compiles to one instruction.
+fn two_eight(row: &[u8], below: &[u8], x: usize, dx: usize, out: &mut [u8])
+    requires { ⌜ RowFits (now row) (now below) x dx 8 × (length (now out) ≡ 8) ⌝ }
+    ensures { λ r. ⌜ now (out .exit) ≡ tabulate 8 (twoOf (now (row .entry)) (now (below .entry)) x dx) ⌝ }
 {
-    let n = out.len();
     let right = x + dx;
-    let e = x + n;
-    let f = right + n;
+    let e = x + 8;
+    let f = right + 8;
+    let mut local = [0u8; 8];
+    mean2_samples(&row[x..e], &below[right..f], &mut local);
+    copy_eight(&local, out);
+}
+
+/// Eight means of four samples, likewise.
+fn four_eight(row: &[u8], below: &[u8], x: usize, dx: usize, out: &mut [u8])
+    requires { ⌜ RowFits (now row) (now below) x dx 8 × (length (now out) ≡ 8) ⌝ }
+    ensures { λ r. ⌜ now (out .exit) ≡ tabulate 8 (fourOf (now (row .entry)) (now (below .entry)) x dx) ⌝ }
+{
+    let right = x + dx;
+    let e = x + 8;
+    let f = right + 8;
+    let mut local = [0u8; 8];
     mean4_samples(
         &row[x..e],
         &row[right..f],
         &below[x..e],
         &below[right..f],
-        out,
+        &mut local,
     );
+    copy_eight(&local, out);
+}
+
+/// A row of 8 or 16, of two samples each, which are one where `dx` is 0 and the rows are the same.
+fn two_row(row: &[u8], below: &[u8], x: usize, dx: usize, out: &mut [u8])
+    requires { ⌜ RowFits (now row) (now below) x dx (length (now out)) × Eights (length (now out)) ⌝ }
+    ensures { λ r. ⌜ now (out .exit) ≡ tabulate (length (now (out .entry))) (twoOf (now (row .entry)) (now (below .entry)) x dx) ⌝ }
+{
+    two_eight(row, below, x, dx, &mut out[0..8]);
+    if out.len() == 8 {
+        return;
+    }
+    two_eight(row, below, x + 8, dx, &mut out[8..16]);
+}
+
+/// A row of 8 or 16, of four samples each.
+fn four_row(row: &[u8], below: &[u8], x: usize, dx: usize, out: &mut [u8])
+    requires { ⌜ RowFits (now row) (now below) x dx (length (now out)) × Eights (length (now out)) ⌝ }
+    ensures { λ r. ⌜ now (out .exit) ≡ tabulate (length (now (out .entry))) (fourOf (now (row .entry)) (now (below .entry)) x dx) ⌝ }
+{
+    four_eight(row, below, x, dx, &mut out[0..8]);
+    if out.len() == 8 {
+        return;
+    }
+    four_eight(row, below, x + 8, dx, &mut out[8..16]);
 }
 
 /// A row of predicted samples out of two rows of the plane, which are one where `dy` is 0. Unless both steps are 1, two samples are
 /// enough.
 fn form_row(row: &[u8], below: &[u8], x: usize, dx: usize, dy: usize, out: &mut [u8])
-    requires { ⌜ RowFits (now row) (now below) x dx (length (now out)) × (dx ≤ 1) × (dy ≤ 1) × (dy ≡ 0 → now below ≡ now row) ⌝ }
+    requires { ⌜ RowFits (now row) (now below) x dx (length (now out)) × (dx ≤ 1) × (dy ≤ 1) × (dy ≡ 0 → now below ≡ now row) × Eights (length (now out)) ⌝ }
     ensures { λ r. ⌜ now (out .exit) ≡ tabulate (length (now (out .entry))) (fourOf (now (row .entry)) (now (below .entry)) x dx) ⌝ }
 {
     if dx + dy == 2 {
@@ -444,7 +478,7 @@ fn form_line(
     dy: usize,
     out: &mut [u8],
 )
-    requires { ⌜ ViewFits (now samples) width first step count × Inside width count x y dx dy (length (now out)) 1 × (dx ≤ 1) × (dy ≤ 1) ⌝ }
+    requires { ⌜ ViewFits (now samples) width first step count × Inside width count x y dx dy (length (now out)) 1 × (dx ≤ 1) × (dy ≤ 1) × Eights (length (now out)) ⌝ }
     ensures { λ r. ⌜ now (out .exit) ≡ tabulate (length (now (out .entry))) (lineCell (now (samples .entry)) width first step count (pos x) (pos y) dx dy) ⌝ }
 {
     let a = line_start(first, step, width, y);
@@ -454,7 +488,7 @@ fn form_line(
     form_row(&samples[a..e], &samples[b..f], x, dx, dy, out);
 }
 
-/// A block whose reads all lie inside: nothing is clamped.
+/// A block of 8 or 16 columns whose reads all lie inside: nothing is clamped.
 fn form_inside(
     samples: &[u8],
     width: usize,
@@ -469,7 +503,7 @@ fn form_inside(
     block_height: usize,
     out: &mut [u8],
 )
-    requires { ⌜ ViewFits (now samples) width first step count × BlockFits dx dy «block_width» «block_height» (now out) × Inside width count x y dx dy «block_width» «block_height» ⌝ }
+    requires { ⌜ ViewFits (now samples) width first step count × BlockFits dx dy «block_width» «block_height» (now out) × Inside width count x y dx dy «block_width» «block_height» × Eights «block_width» ⌝ }
     ensures { λ r. ⌜ now (out .exit) ≡ viewBlock (now (samples .entry)) width first step count (pos x) (pos y) dx dy «block_width» «block_height» ⌝ }
 {
     let mut r: usize = 0;
@@ -506,15 +540,36 @@ fn clamp_columns(width: usize, x: i32, columns: &mut [usize])
     }
 }
 
-fn pick_columns(row: &[u8], columns: &[usize], out: &mut [u8])
-    requires { ⌜ ColumnsFit (now columns) (length (now row)) × (length (now out) ≡ length (now columns)) ⌝ }
-    ensures { λ r. ⌜ now (out .exit) ≡ tabulate (length (now (out .entry))) (λ (k : ℕ). getD (now (row .entry)) (getD (now (columns .entry)) k 0) 0) ⌝ }
+fn pick_eight(row: &[u8], columns: &[usize], out: &mut [u8])
+    requires { ⌜ ColumnsFit (now columns) (length (now row)) × (length (now columns) ≡ 8) × (length (now out) ≡ 8) ⌝ }
+    ensures { λ r. ⌜ now (out .exit) ≡ tabulate 8 (pickedOf (now (row .entry)) (now (columns .entry))) ⌝ }
 {
     let mut k: usize = 0;
-    while k < out.len() {
+    while k < 8 {
         out[k] = row[columns[k]];
         k += 1;
     }
+}
+
+/// The samples of a row in 8 or 16 columns, or in one more.
+fn pick_columns(row: &[u8], columns: &[usize], out: &mut [u8])
+    requires { ⌜ ColumnsFit (now columns) (length (now row)) × (length (now out) ≡ length (now columns)) ⌝ }
+    ensures { λ r. ⌜ now (out .exit) ≡ tabulate (length (now (out .entry))) (pickedOf (now (row .entry)) (now (columns .entry))) ⌝ }
+{
+    let n = out.len();
+    pick_eight(row, &columns[0..8], &mut out[0..8]);
+    if n == 8 {
+        return;
+    }
+    if n == 9 {
+        out[8] = row[columns[8]];
+        return;
+    }
+    pick_eight(row, &columns[8..16], &mut out[8..16]);
+    if n == 16 {
+        return;
+    }
+    out[16] = row[columns[16]];
 }
 
 /// The samples of one line in these columns.
@@ -570,26 +625,6 @@ fn fetch_lines(
     }
 }
 
-/// The samples that a block reads, with `columns` as room for its columns.
-fn fetch(
-    samples: &[u8],
-    width: usize,
-    first: usize,
-    step: usize,
-    count: usize,
-    x: i32,
-    y: i32,
-    columns: &mut [usize],
-    height: usize,
-    out: &mut [u8],
-)
-    requires { ⌜ ViewFits (now samples) width first step count × Reach x × Reach y × FetchFits (now columns) height (now out) ⌝ }
-    ensures { λ r. ⌜ now (out .exit) ≡ blockOf (length (now (columns .entry))) height (viewRead (now (samples .entry)) width first step count) x y ⌝ }
-{
-    clamp_columns(width, x, columns);
-    fetch_lines(samples, width, first, step, count, columns, y, height, out);
-}
-
 /// A block that reaches past an edge: what it reads is copied to `region`, and nothing is outside there.
 fn form_region(
     samples: &[u8],
@@ -597,23 +632,22 @@ fn form_region(
     first: usize,
     step: usize,
     count: usize,
-    x: i32,
+    columns: &[usize],
     y: i32,
     dx: usize,
     dy: usize,
     block_width: usize,
     block_height: usize,
-    columns: &mut [usize],
     region: &mut [u8],
     out: &mut [u8],
 )
-    requires { ⌜ ViewFits (now samples) width first step count × Reach x × Reach y ⌝ }
+    requires { ⌜ ViewFits (now samples) width first step count × ColumnsFit (now columns) width × Reach y × Eights «block_width» ⌝ }
     requires { ⌜ BlockFits dx dy «block_width» «block_height» (now out) × RegionFits (now columns) (now region) dx dy «block_width» «block_height» ⌝ }
-    ensures { λ r. ⌜ now (out .exit) ≡ viewBlock (now (samples .entry)) width first step count x y dx dy «block_width» «block_height» ⌝ }
+    ensures { λ r. ⌜ ((x : ℤ) → now (columns .entry) ≡ tabulate («block_width» + dx) (columnAt width x) → now (out .exit) ≡ viewBlock (now (samples .entry)) width first step count x y dx dy «block_width» «block_height») ⌝ }
 {
     let w = block_width + dx;
     let h = block_height + dy;
-    fetch(samples, width, first, step, count, x, y, columns, h, region);
+    fetch_lines(samples, width, first, step, count, columns, y, h, region);
     form_inside(
         region,
         w,
@@ -630,39 +664,62 @@ fn form_region(
     );
 }
 
-/// Where no sample is a mean, what is read is the block.
-fn form_plain(
+/// A block that reaches past an edge, with the columns that it may read and room for the samples. Where no sample is a mean, what is
+/// read is the block.
+fn form_fetched(
     samples: &[u8],
     width: usize,
     first: usize,
     step: usize,
     count: usize,
-    x: i32,
+    columns: &[usize],
     y: i32,
+    dx: usize,
+    dy: usize,
     block_width: usize,
     block_height: usize,
-    columns: &mut [usize],
+    region: &mut [u8],
     out: &mut [u8],
 )
-    requires { ⌜ ViewFits (now samples) width first step count × Reach x × Reach y × BlockFits 0 0 «block_width» «block_height» (now out) × (length (now columns) ≡ 17) ⌝ }
-    ensures { λ r. ⌜ now (out .exit) ≡ viewBlock (now (samples .entry)) width first step count x y 0 0 «block_width» «block_height» ⌝ }
+    requires { ⌜ ViewFits (now samples) width first step count × Reach y × Eights «block_width» ⌝ }
+    requires { ⌜ BlockFits dx dy «block_width» «block_height» (now out) × FetchFits (now columns) (now region) width «block_width» ⌝ }
+    ensures { λ r. ⌜ ((x : ℤ) → now (columns .entry) ≡ tabulate («block_width» + 1) (columnAt width x) → now (out .exit) ≡ viewBlock (now (samples .entry)) width first step count x y dx dy «block_width» «block_height») ⌝ }
 {
-    fetch(
+    let w = block_width + dx;
+    if dx + dy == 0 {
+        fetch_lines(
+            samples,
+            width,
+            first,
+            step,
+            count,
+            &columns[0..w],
+            y,
+            block_height,
+            out,
+        );
+        return;
+    }
+    let n = w * (block_height + dy);
+    form_region(
         samples,
         width,
         first,
         step,
         count,
-        x,
+        &columns[0..w],
         y,
-        &mut columns[0..block_width],
+        dx,
+        dy,
+        block_width,
         block_height,
+        &mut region[0..n],
         out,
     );
 }
 
-/// Where samples are means, what is read goes to the front of `region`.
-fn form_mean(
+/// A block of 8 or 16 columns that reaches past an edge, with room for the columns and the samples that it may read.
+fn form_eights(
     samples: &[u8],
     width: usize,
     first: usize,
@@ -674,35 +731,81 @@ fn form_mean(
     dy: usize,
     block_width: usize,
     block_height: usize,
-    columns: &mut [usize],
-    region: &mut [u8],
     out: &mut [u8],
 )
-    requires { ⌜ ViewFits (now samples) width first step count × Reach x × Reach y ⌝ }
-    requires { ⌜ BlockFits dx dy «block_width» «block_height» (now out) × (length (now columns) ≡ 17) × (length (now region) ≡ 289) ⌝ }
+    requires { ⌜ Readable (now samples) width first step count × Reach x × Reach y × BlockFits dx dy «block_width» «block_height» (now out) × Eights «block_width» ⌝ }
     ensures { λ r. ⌜ now (out .exit) ≡ viewBlock (now (samples .entry)) width first step count x y dx dy «block_width» «block_height» ⌝ }
 {
-    let w = block_width + dx;
-    let n = w * (block_height + dy);
-    form_region(
+    if samples.len() == 0 {
+        clear(out);
+        return;
+    }
+    if block_width == 8 {
+        let mut columns = [0usize; 9];
+        clamp_columns(width, x, &mut columns);
+        let mut region = [0u8; 153];
+        form_fetched(
+            samples,
+            width,
+            first,
+            step,
+            count,
+            &columns,
+            y,
+            dx,
+            dy,
+            block_width,
+            block_height,
+            &mut region,
+            out,
+        );
+        return;
+    }
+    let mut columns = [0usize; 17];
+    clamp_columns(width, x, &mut columns);
+    let mut region = [0u8; 289];
+    form_fetched(
         samples,
         width,
         first,
         step,
         count,
-        x,
+        &columns,
         y,
         dx,
         dy,
         block_width,
         block_height,
-        &mut columns[0..w],
-        &mut region[0..n],
+        &mut region,
         out,
     );
 }
 
-/// A block that reaches past an edge, with room for the 17 × 17 samples that it may read.
+/// The left columns of the upper rows of a block of 16 × 16.
+fn crop(wide: &[u8], width: usize, height: usize, out: &mut [u8])
+    requires { ⌜ (length (now wide) ≡ 256) × (0 < width) × (width ≤ 16) × (height ≤ 16) × (length (now out) ≡ width * height) ⌝ }
+    ensures { λ r. ⌜ now (out .exit) ≡ tabulate (width * height) (λ (k : ℕ). getD (now (wide .entry)) (k / width * 16 + k % width) 0) ⌝ }
+{
+    let mut r: usize = 0;
+    while r < height {
+        let a = r * 16;
+        let b = a + width;
+        let o = r * width;
+        let e = o + width;
+        copy_samples(&wide[a..b], &mut out[o..e]);
+        r += 1;
+    }
+}
+
+/// Whether rows of n samples are formed eight by eight.
+fn by_eights(n: usize) -> bool
+    ensures { λ r. ⌜ r ≡ (eqb n 8 || eqb n 16) ⌝ }
+{
+    (n == 8) | (n == 16)
+}
+
+/// A block that reaches past an edge, or whose width is neither 8 nor 16: that one is cut out of a block of 16 × 16. As this function calls
+/// itself, it is not inlined, and blocks inside don't pay for its arrays.
 fn form_clamped(
     samples: &[u8],
     width: usize,
@@ -717,12 +820,11 @@ fn form_clamped(
     block_height: usize,
     out: &mut [u8],
 )
-    requires { ⌜ ViewFits (now samples) width first step count × Reach x × Reach y × BlockFits dx dy «block_width» «block_height» (now out) ⌝ }
+    requires { ⌜ Readable (now samples) width first step count × Reach x × Reach y × BlockFits dx dy «block_width» «block_height» (now out) ⌝ }
     ensures { λ r. ⌜ now (out .exit) ≡ viewBlock (now (samples .entry)) width first step count x y dx dy «block_width» «block_height» ⌝ }
 {
-    let mut columns = [0usize; 17];
-    if dx + dy == 0 {
-        form_plain(
+    if by_eights(block_width) {
+        form_eights(
             samples,
             width,
             first,
@@ -730,15 +832,16 @@ fn form_clamped(
             count,
             x,
             y,
+            dx,
+            dy,
             block_width,
             block_height,
-            &mut columns,
             out,
         );
         return;
     }
-    let mut region = [0u8; 289];
-    form_mean(
+    let mut wide = [0u8; 256];
+    form_clamped(
         samples,
         width,
         first,
@@ -748,12 +851,11 @@ fn form_clamped(
         y,
         dx,
         dy,
-        block_width,
-        block_height,
-        &mut columns,
-        &mut region,
-        out,
+        16,
+        16,
+        &mut wide,
     );
+    crop(&wide, block_width, block_height, out);
 }
 
 /// Whether n places from `position` on lie below the limit.
@@ -767,7 +869,7 @@ fn is_inside(position: i32, n: usize, limit: usize) -> bool
     position as usize + n <= limit
 }
 
-/// A block of a view, from (x, y) on.
+/// A block of a view, from (x, y) on. Nothing lies inside a view without samples.
 fn form(
     samples: &[u8],
     width: usize,
@@ -782,10 +884,11 @@ fn form(
     block_height: usize,
     out: &mut [u8],
 )
-    requires { ⌜ ViewFits (now samples) width first step count × Reach x × Reach y × BlockFits dx dy «block_width» «block_height» (now out) ⌝ }
+    requires { ⌜ Readable (now samples) width first step count × Reach x × Reach y × BlockFits dx dy «block_width» «block_height» (now out) ⌝ }
     ensures { λ r. ⌜ now (out .exit) ≡ viewBlock (now (samples .entry)) width first step count x y dx dy «block_width» «block_height» ⌝ }
 {
-    if is_inside(x, dx + block_width, width) & is_inside(y, dy + block_height, count) {
+    let inside = is_inside(x, dx + block_width, width) & is_inside(y, dy + block_height, count);
+    if inside & by_eights(block_width) {
         form_inside(
             samples,
             width,
@@ -914,10 +1017,6 @@ fn form_rows(
     requires { ⌜ RowsFit rows (plane .height) × (blockRefusal (plane .width) (plane .height) (length (now samples)) x y (size .width) (size .height) (length (now out)) ≡ 0) ⌝ }
     ensures { λ r. ⌜ now (out .exit) ≡ predictedBlock rounded (rowsSample rows (plane .width) (plane .height) (now (samples .entry))) (size .width) (size .height) x y horizontal vertical ⌝ }
 {
-    if samples.len() == 0 {
-        clear(out);
-        return;
-    }
     form(
         samples,
         plane.width,
@@ -1039,29 +1138,6 @@ fn predict_rows_sample(
     Sampled::Sample(form_rows_sample(rows, plane, samples, x, y, horizontal, vertical))
 }
 
-fn predict_rows_block(
-    rows: Rows,
-    plane: ReferencePlane,
-    samples: &[u8],
-    x: i32,
-    y: i32,
-    size: BlockSize,
-    horizontal: i32,
-    vertical: i32,
-    out: &mut [u8],
-) -> Predicted
-    requires { ⌜ RowsFit rows (plane .height) ⌝ }
-    ensures answer { λ r. ⌜ r ≡ blockAnswer (blockRefusal (plane .width) (plane .height) (length (now (samples .entry))) x y (size .width) (size .height) (length (now (out .entry)))) ⌝ }
-    ensures buffer { λ r. ⌜ now (out .exit) ≡ unlessRefused (blockNumber r) (predictedBlock rounded (rowsSample rows (plane .width) (plane .height) (now (samples .entry))) (size .width) (size .height) x y horizontal vertical) (now (out .entry)) ⌝ }
-{
-    let number = block_refusal(plane, samples.len(), x, y, size, out.len());
-    if number != 0 {
-        return Predicted::Refused(number);
-    }
-    form_rows(rows, plane, samples, x, y, size, horizontal, vertical, out);
-    Predicted::Done
-}
-
 // ---- the calls
 
 impl ReferencePlane {
@@ -1152,8 +1228,20 @@ pub fn predict_block(
     ensures answer { λ r. ⌜ r ≡ blockAnswer (blockRefusal (reference .width) (reference .height) (length (now (samples .entry))) «top_left_x» «top_left_y» (size .width) (size .height) (length (now (out .entry)))) ⌝ }
     ensures buffer { λ r. ⌜ now (out .exit) ≡ unlessRefused (blockNumber r) (predictedBlock rounded (sampleAt frame (reference .width) (reference .height) (now (samples .entry))) (size .width) (size .height) «top_left_x» «top_left_y» horizontal vertical) (now (out .entry)) ⌝ }
 {
-    predict_rows_block(
-        frame_rows(reference.height),
+    let rows = frame_rows(reference.height);
+    let number = block_refusal(
+        reference,
+        samples.len(),
+        top_left_x,
+        top_left_y,
+        size,
+        out.len(),
+    );
+    if number != 0 {
+        return Predicted::Refused(number);
+    }
+    form_rows(
+        rows,
         reference,
         samples,
         top_left_x,
@@ -1162,7 +1250,8 @@ pub fn predict_block(
         horizontal,
         vertical,
         out,
-    )
+    );
+    Predicted::Done
 }
 
 /// The same from a field: the position and the vector count the field's lines.
@@ -1179,8 +1268,20 @@ pub fn predict_field_block(
     ensures answer { λ r. ⌜ r ≡ blockAnswer (blockRefusal (reference .plane .width) (reference .plane .height) (length (now (samples .entry))) «top_left_x» «top_left_y» (size .width) (size .height) (length (now (out .entry)))) ⌝ }
     ensures buffer { λ r. ⌜ now (out .exit) ≡ unlessRefused (blockNumber r) (predictedBlock rounded (sampleAt (field (reference .parity)) (reference .plane .width) (reference .plane .height) (now (samples .entry))) (size .width) (size .height) «top_left_x» «top_left_y» horizontal vertical) (now (out .entry)) ⌝ }
 {
-    predict_rows_block(
-        field_rows(reference),
+    let rows = field_rows(reference);
+    let number = block_refusal(
+        reference.plane,
+        samples.len(),
+        top_left_x,
+        top_left_y,
+        size,
+        out.len(),
+    );
+    if number != 0 {
+        return Predicted::Refused(number);
+    }
+    form_rows(
+        rows,
         reference.plane,
         samples,
         top_left_x,
@@ -1189,5 +1290,6 @@ pub fn predict_field_block(
         horizontal,
         vertical,
         out,
-    )
+    );
+    Predicted::Done
 }

@@ -37,6 +37,16 @@ room c =
       s .pre .1 .count,
     )
 
+-- and is as long as the block is wide
+long : (c : tie.In-loop Inv-loop μ-loop)
+    → (let n = start (c .before) .args .block-width in
+    let o = c .before .loop .r * n in
+    length (take (o + n - o) (drop o (c .before .loop .out))) ≡ n)
+long c =
+    let n = start (c .before) .args .block-width in
+    let o = c .before .loop .r * n in
+    part-length (c .before .loop .out) o (o + n) (room c) ∙ omega arith
+
 loop-holds : tie.Need-loop-holds Inv-loop μ-loop
 loop-holds c = (omega arith, rw (zero-mul (c .before .before .args .block-width)) (filled-none _ _))
 
@@ -63,12 +73,12 @@ part-form-line-end c = room c
 form-line-requires : tie.Need-form-line-requires Inv-loop μ-loop
 form-line-requires c κs =
     let i = c .before in
-    let s = start (i .before) in
-    let n = part-length (i .before .loop .out) (i .before .loop .r * s .args .block-width) (i .before .loop .r * s .args .block-width + s .args .block-width) (room i) in (
+    let s = start (i .before) in (
       s .pre .0,
-      record { right = omega (arith, s .pre .2 .right); below = omega (arith, s .pre .2 .below, i .loop-test .taken) },
+      record { right = omega (arith, long i, s .pre .2 .right); below = omega (arith, s .pre .2 .below, i .loop-test .taken) },
       s .pre .1 .right,
       s .pre .1 .down,
+      rw (long i) (s .pre .3),
     )
 
 add-r : tie.Need-add-r Inv-loop μ-loop
@@ -85,13 +95,10 @@ loop-again c =
     let f = c .before .before in
     let i = f .before .before in
     let l = i .before in
-    let a = start l .args in
-    let o = l .loop .r * a .block-width in
-    let long : length (take (o + a .block-width - o) (drop o (l .loop .out))) ≡ a .block-width =
-    part-length (l .loop .out) o (o + a .block-width) (room i) ∙ omega arith in (
+    let a = start l .args in (
       omega (arith, i .loop-test .taken),
       rw (next-row (l .loop .r) (a .block-width))
-          (filled-part (a .block-width) (l .loop .inv .1) (room i) (rw long at (f .form-line .ensures))
+          (filled-part (a .block-width) (l .loop .inv .1) (room i) (rw (long i) at (f .form-line .ensures))
           (λ k h. row-of-block (λ (x y : ℤ). spread (viewRead (a .samples .now) (a .width) (a .first) (a .step) (a .count)) x y (a .dx) (a .dy)) (pos (a .x)) (pos (a .y)) (a .block-width) (l .loop .r) k h)),
     )
 

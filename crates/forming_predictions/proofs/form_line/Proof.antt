@@ -56,7 +56,7 @@ form-row-requires c κs =
     let s = l2 .before .before .before .before in
     let one = l2 .before .line-start .ensures in
     let two = l2 .line-start2 .ensures in
-    (line-rows (s .pre .0) (s .pre .1) one two, s .pre .2, s .pre .3, same-rows (s .pre .0) (s .pre .1) one two)
+    (line-rows (s .pre .0) (s .pre .1) one two, s .pre .2, s .pre .3, same-rows (s .pre .0) (s .pre .1) one two, s .pre .4)
 
 same-length : tie.Need-same-length
 same-length c = search needs

@@ -1,7 +1,6 @@
--- `form_rows` meets its contract: an empty plane gives zeros, and another one is a view.
+-- `form_rows` meets its contract: the plane is read through a view, also where it has no samples.
 -- Assumes nothing.
 use mathlib.Core.Path.{_≡_, _∙_}
-use native.Mathlib.Omega.{arith}
 use lib.ListN.{length}
 use mir.Facts.{toZ-ofZ}
 use lib.IntN.{_+ℤ_}
@@ -10,14 +9,14 @@ use mir.Val.{toZ, ofZ}
 use Rattle.laws.proofs.Bits.{back}
 use Rattle.forming_predictions.specs.Splitting.{floorHalf}
 use Rattle.forming_predictions.proofs.Refusals.{BlockRight, block-right}
-use Rattle.forming_predictions.proofs.Views.{sides-some, rows-view}
-use Rattle.forming_predictions.proofs.Forming.{view-block, empty-block}
+use Rattle.forming_predictions.proofs.Views.{rows-readable}
+use Rattle.forming_predictions.proofs.Forming.{view-block}
 use borrow.Author.Needs.{needs}
 use Rattle.forming_predictions.proofs.form_rows.Statement.{statement}
 use Rattle.forming_predictions.proofs.form_rows.Tie as tie
 
-abbrev start : tie.Else1 → tie.Start
-start c = c .before .before .before
+abbrev start : tie.After-slice-known → tie.Start
+start c = c .before .before
 
 -- what is accepted
 right : (s : tie.Start)
@@ -36,20 +35,6 @@ down c =
     let s = start (c .before .before) in
     let m = c .moved2 in
     back w32 (m .result) (m .ok) ∙ (rw (toZ-ofZ (s .fits .y), toZ-ofZ (s .fits .vertical)) at (m .ensures .0))
-
-clear-requires : tie.Need-clear-requires
-clear-requires c κs = search needs
-
-same-length : tie.Need-same-length
-same-length c = search needs
-
-returns : tie.Need-returns
-returns c =
-    let t = c .before .before .before .before in
-    let s = t .before .before .before in
-    let a = s .args in
-    (rw (right s .room) at (c .before .before .clear .ensures))
-    ∙ empty-block (a .rows) (a .plane .width) (a .plane .height) (a .samples .now) (a .size .width) (a .size .height) (a .x) (a .y) (a .horizontal) (a .vertical) (omega (arith, right s .plane .count, t .if1 .taken))
 
 moved-requires : tie.Need-moved-requires
 moved-requires c κs = let s = start c in rw (toZ-ofZ (s .fits .x)) (right s .at-x)
@@ -71,7 +56,7 @@ form-requires c κs =
     let s = start e in
     let r = right s in
     let p = r .plane in (
-      rows-view (s .pre .0) (p .wide) (p .high) (p .count) (omega (arith, e .if1 .left)),
+      rows-readable (s .pre .0) (p .wide) (p .high) (p .count),
       rw (back w32 (m2 .before .moved .result) (m2 .before .moved .ok)) (m2 .before .moved .ensures .1),
       rw (back w32 (m2 .moved2 .result) (m2 .moved2 .ok)) (m2 .moved2 .ensures .1),
       record {
@@ -85,11 +70,11 @@ form-requires c κs =
       },
     )
 
-same-length-2 : tie.Need-same-length-2
-same-length-2 c = search needs
+same-length : tie.Need-same-length
+same-length c = search needs
 
-returns-2 : tie.Need-returns-2
-returns-2 c =
+returns : tie.Need-returns
+returns c =
     let f = c .before .before in
     let h2 = f .before .before in
     let h1 = h2 .before in
@@ -98,7 +83,6 @@ returns-2 c =
     let e = m1 .before in
     let s = start e in
     let a = s .args in
-    let sides = sides-some (a .plane .width) (a .plane .height) (omega (arith, right s .plane .count, e .if1 .left)) in
     (rw (
       across m1,
       down m2,
@@ -106,19 +90,16 @@ returns-2 c =
       rw (toZ-ofZ (s .fits .vertical)) at (h2 .half-step2 .ensures .0),
     )
     at (f .form .ensures))
-    ∙ view-block (a .rows) (a .plane .width) (a .plane .height) (a .samples .now) (a .size .width) (a .size .height) (a .x) (a .y) (a .horizontal) (a .vertical) (sides .0) (sides .1)
+    ∙ view-block (a .rows) (a .plane .width) (a .plane .height) (a .samples .now) (a .size .width) (a .size .height) (a .x) (a .y) (a .horizontal) (a .vertical) (right s .plane .count)
 
 pub form-rows-spec : {M : Type 1} → statement M
 form-rows-spec =
     tie.close
     (tie.spec
-    clear-requires
-    same-length
-    returns
     moved-requires
     moved-requires-2
     half-step-requires
     half-step-requires-2
     form-requires
-    same-length-2
-    returns-2)
+    same-length
+    returns)

@@ -1,86 +1,95 @@
--- `four_row` meets its contract.
+-- `four_row` meets its contract: the first eight, and the next eight where there are more.
 -- Assumes nothing.
-use mathlib.Core.Path.{_∙_}
-use Rattle.forming_predictions.proofs.RowMeans.{four-parts}
+use mathlib.Core.Path.{_≡_, refl, _∙_}
+use Prim.Native.Nat.{_≤_}
+use native.Mathlib.Omega.{arith}
+use lib.ListN.{length}
+use borrow.Rule.Slice.PartMut.{putMid}
+use Rattle.laws.proofs.Filled.{Filled, filled-length}
+use Rattle.forming_predictions.specs.inner.Views.{fourOf}
+use Rattle.forming_predictions.proofs.Eights.{eight, sixteen, still, next-room, whole, four-next}
 use borrow.Author.Needs.{needs}
 use Rattle.forming_predictions.proofs.four_row.Statement.{statement}
 use Rattle.forming_predictions.proofs.four_row.Tie as tie
 
-add-right : tie.Need-add-right
-add-right c = search needs
+abbrev start : tie.After-four-eight → tie.Start
+start t = t .before .before .before .before .before
 
-add-e : tie.Need-add-e
-add-e c = search needs
+-- what the first call wrote
+first : (t : tie.After-four-eight)
+    → (let a = start t .args in Filled (fourOf (a .row .now) (a .below .now) (a .x) (a .dx)) (a .out .now) 8 (putMid 0 8 (a .out .now) (t .four-eight .last .1 .1 .1 .1 .0)))
+first t = eight (start t .pre .1 .some) (t .four-eight .ensures) (λ i h. refl)
 
-add-f : tie.Need-add-f
-add-f c = search needs
+abbrev early : tie.Else1 → tie.After-four-eight
+early c = c .before .before .before
 
-sub-mean4-samples : tie.Need-sub-mean4-samples
-sub-mean4-samples c = search needs
+-- there are eight more
+more : (c : tie.Else1) → length (start (early c) .args .out .now) ≡ 16
+more c = start (early c) .pre .1 .more (λ z. c .if1 .left (filled-length (first (early c)) ∙ z))
 
-part-mean4-samples-start : tie.Need-part-mean4-samples-start
-part-mean4-samples-start c = search needs
+sub-four-eight : tie.Need-sub-four-eight
+sub-four-eight c = search needs
 
-part-mean4-samples-end : tie.Need-part-mean4-samples-end
-part-mean4-samples-end c = search needs
+part-four-eight-start : tie.Need-part-four-eight-start
+part-four-eight-start c = search needs
 
-sub-mean4-samples-2 : tie.Need-sub-mean4-samples-2
-sub-mean4-samples-2 c = search needs
+part-four-eight-end : tie.Need-part-four-eight-end
+part-four-eight-end c = search needs
 
-part-mean4-samples-start-2 : tie.Need-part-mean4-samples-start-2
-part-mean4-samples-start-2 c = search needs
-
-part-mean4-samples-end-2 : tie.Need-part-mean4-samples-end-2
-part-mean4-samples-end-2 c = search needs
-
-sub-mean4-samples-3 : tie.Need-sub-mean4-samples-3
-sub-mean4-samples-3 c = search needs
-
-part-mean4-samples-start-3 : tie.Need-part-mean4-samples-start-3
-part-mean4-samples-start-3 c = search needs
-
-part-mean4-samples-end-3 : tie.Need-part-mean4-samples-end-3
-part-mean4-samples-end-3 c = search needs
-
-sub-mean4-samples-4 : tie.Need-sub-mean4-samples-4
-sub-mean4-samples-4 c = search needs
-
-part-mean4-samples-start-4 : tie.Need-part-mean4-samples-start-4
-part-mean4-samples-start-4 c = search needs
-
-part-mean4-samples-end-4 : tie.Need-part-mean4-samples-end-4
-part-mean4-samples-end-4 c = search needs
-
-mean4-samples-requires : tie.Need-mean4-samples-requires
-mean4-samples-requires c κs = search needs
+four-eight-requires : tie.Need-four-eight-requires
+four-eight-requires c κs = search needs
 
 same-length : tie.Need-same-length
 same-length c = search needs
 
 returns : tie.Need-returns
 returns c =
-    let s = c .before .before .before .before .before .before .before .before .before .before .before in
-    c .before .before .mean4-samples .ensures ∙ four-parts (s .pre)
+    let t = c .before .before .before in
+    whole (first t) (omega (arith, filled-length (first t), c .if1 .taken))
+
+add-four-eight : tie.Need-add-four-eight
+add-four-eight c = search needs
+
+sub-four-eight-2 : tie.Need-sub-four-eight-2
+sub-four-eight-2 c = search needs
+
+part-four-eight-start-2 : tie.Need-part-four-eight-start-2
+part-four-eight-start-2 c = search needs
+
+part-four-eight-end-2 : tie.Need-part-four-eight-end-2
+part-four-eight-end-2 c = still (first (early c)) 16 (omega (arith, more c))
+
+four-eight-requires-2 : tie.Need-four-eight-requires-2
+four-eight-requires-2 c κs =
+    let e = c .before in
+    let p = start (early e) .pre in
+    (record { right = omega (arith, p .0 .right, more e); same = p .0 .same }, next-room (first (early e)) (omega (arith, more e)))
+
+same-length-2 : tie.Need-same-length-2
+same-length-2 c = search needs
+
+returns-2 : tie.Need-returns-2
+returns-2 c =
+    let u = c .before .before in
+    let e = u .before .before in
+    let t = early e in
+    let a = start t .args in
+    whole (sixteen (first t) (omega (arith, more e)) (u .four-eight2 .ensures) (λ i h. four-next (a .row .now) (a .below .now) (a .x) (a .dx) i)) (more e)
 
 pub four-row-spec : {M : Type 1} → statement M
 four-row-spec =
     tie.close
     (tie.spec
-    add-right
-    add-e
-    add-f
-    sub-mean4-samples
-    part-mean4-samples-start
-    part-mean4-samples-end
-    sub-mean4-samples-2
-    part-mean4-samples-start-2
-    part-mean4-samples-end-2
-    sub-mean4-samples-3
-    part-mean4-samples-start-3
-    part-mean4-samples-end-3
-    sub-mean4-samples-4
-    part-mean4-samples-start-4
-    part-mean4-samples-end-4
-    mean4-samples-requires
+    sub-four-eight
+    part-four-eight-start
+    part-four-eight-end
+    four-eight-requires
     same-length
-    returns)
+    returns
+    add-four-eight
+    sub-four-eight-2
+    part-four-eight-start-2
+    part-four-eight-end-2
+    four-eight-requires-2
+    same-length-2
+    returns-2)

@@ -1,113 +1,95 @@
--- `two_row` meets its contract, through the local array and without it.
+-- `two_row` meets its contract: the first eight, and the next eight where there are more.
 -- Assumes nothing.
-use mathlib.Core.Path.{_∙_}
-use Rattle.forming_predictions.proofs.RowMeans.{two-parts}
+use mathlib.Core.Path.{_≡_, refl, _∙_}
+use Prim.Native.Nat.{_≤_}
+use native.Mathlib.Omega.{arith}
+use lib.ListN.{length}
+use borrow.Rule.Slice.PartMut.{putMid}
+use Rattle.laws.proofs.Filled.{Filled, filled-length}
+use Rattle.forming_predictions.specs.inner.Views.{twoOf}
+use Rattle.forming_predictions.proofs.Eights.{eight, sixteen, still, next-room, whole, two-next}
 use borrow.Author.Needs.{needs}
 use Rattle.forming_predictions.proofs.two_row.Statement.{statement}
 use Rattle.forming_predictions.proofs.two_row.Tie as tie
 
-add-right : tie.Need-add-right
-add-right c = search needs
+abbrev start : tie.After-two-eight → tie.Start
+start t = t .before .before .before .before .before
 
-add-e : tie.Need-add-e
-add-e c = search needs
+-- what the first call wrote
+first : (t : tie.After-two-eight)
+    → (let a = start t .args in Filled (twoOf (a .row .now) (a .below .now) (a .x) (a .dx)) (a .out .now) 8 (putMid 0 8 (a .out .now) (t .two-eight .last .1 .1 .1 .1 .0)))
+first t = eight (start t .pre .1 .some) (t .two-eight .ensures) (λ i h. refl)
 
-add-f : tie.Need-add-f
-add-f c = search needs
+abbrev early : tie.Else1 → tie.After-two-eight
+early c = c .before .before .before
 
-sub-mean2-samples : tie.Need-sub-mean2-samples
-sub-mean2-samples c = search needs
+-- there are eight more
+more : (c : tie.Else1) → length (start (early c) .args .out .now) ≡ 16
+more c = start (early c) .pre .1 .more (λ z. c .if1 .left (filled-length (first (early c)) ∙ z))
 
-part-mean2-samples-start : tie.Need-part-mean2-samples-start
-part-mean2-samples-start c = search needs
+sub-two-eight : tie.Need-sub-two-eight
+sub-two-eight c = search needs
 
-part-mean2-samples-end : tie.Need-part-mean2-samples-end
-part-mean2-samples-end c = search needs
+part-two-eight-start : tie.Need-part-two-eight-start
+part-two-eight-start c = search needs
 
-sub-mean2-samples-2 : tie.Need-sub-mean2-samples-2
-sub-mean2-samples-2 c = search needs
+part-two-eight-end : tie.Need-part-two-eight-end
+part-two-eight-end c = search needs
 
-part-mean2-samples-start-2 : tie.Need-part-mean2-samples-start-2
-part-mean2-samples-start-2 c = search needs
-
-part-mean2-samples-end-2 : tie.Need-part-mean2-samples-end-2
-part-mean2-samples-end-2 c = search needs
-
-slice-aggregate-mean2-samples : tie.Need-slice-aggregate-mean2-samples
-slice-aggregate-mean2-samples c = search needs
-
-mean2-samples-requires : tie.Need-mean2-samples-requires
-mean2-samples-requires c κs = search needs
-
-slice-aggregate-copy-samples : tie.Need-slice-aggregate-copy-samples
-slice-aggregate-copy-samples c = search needs
-
-copy-samples-requires : tie.Need-copy-samples-requires
-copy-samples-requires c κs = search needs
+two-eight-requires : tie.Need-two-eight-requires
+two-eight-requires c κs = search needs
 
 same-length : tie.Need-same-length
 same-length c = search needs
 
 returns : tie.Need-returns
 returns c =
-    let m = c .before .before .before .before .before .before .mean2-samples in
-    let s = c .before .before .before .before .before .before .before .before .before .before .before .before .before .before in
-    c .before .before .copy-samples .ensures ∙ m .ensures ∙ two-parts (s .pre)
+    let t = c .before .before .before in
+    whole (first t) (omega (arith, filled-length (first t), c .if1 .taken))
 
-sub-mean2-samples-3 : tie.Need-sub-mean2-samples-3
-sub-mean2-samples-3 c = search needs
+add-two-eight : tie.Need-add-two-eight
+add-two-eight c = search needs
 
-part-mean2-samples-start-3 : tie.Need-part-mean2-samples-start-3
-part-mean2-samples-start-3 c = search needs
+sub-two-eight-2 : tie.Need-sub-two-eight-2
+sub-two-eight-2 c = search needs
 
-part-mean2-samples-end-3 : tie.Need-part-mean2-samples-end-3
-part-mean2-samples-end-3 c = search needs
+part-two-eight-start-2 : tie.Need-part-two-eight-start-2
+part-two-eight-start-2 c = search needs
 
-sub-mean2-samples-4 : tie.Need-sub-mean2-samples-4
-sub-mean2-samples-4 c = search needs
+part-two-eight-end-2 : tie.Need-part-two-eight-end-2
+part-two-eight-end-2 c = still (first (early c)) 16 (omega (arith, more c))
 
-part-mean2-samples-start-4 : tie.Need-part-mean2-samples-start-4
-part-mean2-samples-start-4 c = search needs
-
-part-mean2-samples-end-4 : tie.Need-part-mean2-samples-end-4
-part-mean2-samples-end-4 c = search needs
-
-mean2-samples-requires-2 : tie.Need-mean2-samples-requires-2
-mean2-samples-requires-2 c κs = search needs
+two-eight-requires-2 : tie.Need-two-eight-requires-2
+two-eight-requires-2 c κs =
+    let e = c .before in
+    let p = start (early e) .pre in
+    (record { right = omega (arith, p .0 .right, more e); same = p .0 .same }, next-room (first (early e)) (omega (arith, more e)))
 
 same-length-2 : tie.Need-same-length-2
 same-length-2 c = search needs
 
 returns-2 : tie.Need-returns-2
 returns-2 c =
-    let s = c .before .before .before .before .before .before .before .before .before .before in
-    c .before .before .mean2-samples2 .ensures ∙ two-parts (s .pre)
+    let u = c .before .before in
+    let e = u .before .before in
+    let t = early e in
+    let a = start t .args in
+    whole (sixteen (first t) (omega (arith, more e)) (u .two-eight2 .ensures) (λ i h. two-next (a .row .now) (a .below .now) (a .x) (a .dx) i)) (more e)
 
 pub two-row-spec : {M : Type 1} → statement M
 two-row-spec =
     tie.close
     (tie.spec
-    add-right
-    add-e
-    add-f
-    sub-mean2-samples
-    part-mean2-samples-start
-    part-mean2-samples-end
-    sub-mean2-samples-2
-    part-mean2-samples-start-2
-    part-mean2-samples-end-2
-    slice-aggregate-mean2-samples
-    mean2-samples-requires
-    slice-aggregate-copy-samples
-    copy-samples-requires
+    sub-two-eight
+    part-two-eight-start
+    part-two-eight-end
+    two-eight-requires
     same-length
     returns
-    sub-mean2-samples-3
-    part-mean2-samples-start-3
-    part-mean2-samples-end-3
-    sub-mean2-samples-4
-    part-mean2-samples-start-4
-    part-mean2-samples-end-4
-    mean2-samples-requires-2
+    add-two-eight
+    sub-two-eight-2
+    part-two-eight-start-2
+    part-two-eight-end-2
+    two-eight-requires-2
     same-length-2
     returns-2)

@@ -40,6 +40,10 @@ fourOf row below x dx k =
 unfoldable pub lineCell : List ℕ → ℕ → ℕ → ℕ → ℕ → ℤ → ℤ → ℕ → ℕ → ℕ → ℕ
 lineCell samples w first step count x y dx dy k = spread (viewRead samples w first step count) (x +ℤ pos k) y dx dy
 
+-- a row's sample in column k of a list of columns
+abbrev pub pickedOf : List ℕ → List ℕ → ℕ → ℕ
+pickedOf row columns k = getD row (getD columns k 0) 0
+
 -- a line's sample in column k of a list of columns
 unfoldable pub picked : List ℕ → ℕ → ℕ → ℕ → ℕ → List ℕ → ℤ → ℕ → ℕ
 picked samples w first step count columns y k =
@@ -74,6 +78,17 @@ pub record ViewFits (samples : List ℕ) (w first step count : ℕ) : Type 0 whe
   pub high : count ≤ 16384
   pub room : (j : ℕ) → j < count → lineStart first step w j + w ≤ length samples
 
+-- a view, or no samples
+pub record Readable (samples : List ℕ) (w first step count : ℕ) : Type 0 where
+  pub view : 0 < length samples → ViewFits samples w first step count
+  pub some : 0 < w → 0 < count → 0 < length samples
+
+-- 8 or 16
+pub record Eights (n : ℕ) : Type 0 where
+  pub some : 8 ≤ n
+  pub wide : n ≤ 16
+  pub more : (n ≡ 8 → ⊥) → n ≡ 16
+
 -- steps to a neighbour, a block's sides, and a buffer that holds it
 pub record BlockFits (dx dy bw bh : ℕ) (o : List ℕ) : Type 0 where
   pub right : dx ≤ 1
@@ -94,20 +109,20 @@ pub record Inside (w count x y dx dy bw bh : ℕ) : Type 0 where
   pub right : x + dx + bw ≤ w
   pub below : y + dy + bh ≤ count
 
--- columns inside a row
+-- 8 or 16 columns, or one more, inside a row
 pub record ColumnsFit (columns : List ℕ) (w : ℕ) : Type 0 where
+  pub some : 8 ≤ length columns
   pub few : length columns ≤ 17
-  pub some : 0 < length columns
+  pub more : (length columns ≡ 8 → ⊥) → (length columns ≡ 9 → ⊥) → 16 ≤ length columns
   pub inside : (k : ℕ) → k < length columns → getD columns k 0 < w
 
--- room for the columns of a block and for its samples
-pub record FetchFits (columns : List ℕ) (height : ℕ) (o : List ℕ) : Type 0 where
-  pub few : length columns ≤ 17
-  pub some : 0 < length columns
-  pub high : height ≤ 17
-  pub count : length o ≡ length columns * height
+-- the columns and the room for samples that a block of bw columns may need
+pub record FetchFits (columns region : List ℕ) (w bw : ℕ) : Type 0 where
+  pub columns-count : length columns ≡ bw + 1
+  pub region-count : length region ≡ (bw + 1) * 17
+  pub inside : (k : ℕ) → k < length columns → getD columns k 0 < w
 
--- room for the columns and the samples that a block reads
+-- the columns and the room for samples that a block reads
 pub record RegionFits (columns region : List ℕ) (dx dy bw bh : ℕ) : Type 0 where
   pub columns-count : length columns ≡ bw + dx
   pub region-count : length region ≡ (bw + dx) * (bh + dy)

@@ -1,0 +1,70 @@
+-- `pick_eight` meets its contract: after k turns the output has the first k samples at its front.
+-- Assumes nothing.
+use mathlib.Core.Path.{refl}
+use Prim.Native.Nat.{_-_}
+use native.Mathlib.Omega.{arith}
+use borrow.Author.Needs.{needs}
+use Rattle.laws.proofs.Filled.{Filled, filled-none, filled-length, filled-step, filled-all}
+use Rattle.forming_predictions.specs.inner.Views.{pickedOf}
+use Rattle.forming_predictions.proofs.pick_eight.Statement.{statement}
+use Rattle.forming_predictions.proofs.pick_eight.Tie as tie
+
+abbrev Inv-loop : tie.InvT-loop
+Inv-loop row columns out₀ k₀ out k = Filled (pickedOf row columns) out₀ k out
+
+abbrev μ-loop : tie.MeasureT-loop
+μ-loop row columns out₀ k₀ out k = 8 - k
+
+loop-holds : tie.Need-loop-holds Inv-loop μ-loop
+loop-holds c = filled-none _ _
+
+mul-out : tie.Need-mul-out Inv-loop μ-loop
+mul-out c = omega (arith, c .loop-test .taken)
+
+shared-slice-read-out : tie.Need-shared-slice-read-out Inv-loop μ-loop
+shared-slice-read-out c = search needs
+
+shared-slice-read-out-2 : tie.Need-shared-slice-read-out-2 Inv-loop μ-loop
+shared-slice-read-out-2 c =
+    let i = c .before .before in
+    let p = i .before .before .pre in
+    p .0 .inside (i .before .loop .k) (omega (arith, i .loop-test .taken, p .1))
+
+slice-write-out : tie.Need-slice-write-out Inv-loop μ-loop
+slice-write-out c =
+    let i = c .before .before in
+    omega (arith, i .loop-test .taken, filled-length (i .before .loop .inv), i .before .before .pre .2)
+
+add-k : tie.Need-add-k Inv-loop μ-loop
+add-k c = search needs
+
+loop-less : tie.Need-loop-less Inv-loop μ-loop
+loop-less c = search needs
+
+loop-again : tie.Need-loop-again Inv-loop μ-loop
+loop-again c = filled-step (c .before .before .before .loop .inv) (slice-write-out c) refl
+
+same-length : tie.Need-same-length Inv-loop μ-loop
+same-length c = filled-length (c .before .loop .inv)
+
+returns : tie.Need-returns Inv-loop μ-loop
+returns c =
+    let l = c .before in
+    filled-all (l .loop .inv) (omega (arith, c .loop-test .left, filled-length (l .loop .inv), l .before .pre .2)) (l .before .pre .2)
+
+pub pick-eight-spec : {M : Type 1} → statement M
+pick-eight-spec =
+    tie.close
+    (tie.spec
+    Inv-loop
+    μ-loop
+    loop-holds
+    mul-out
+    shared-slice-read-out
+    shared-slice-read-out-2
+    slice-write-out
+    add-k
+    loop-less
+    loop-again
+    same-length
+    returns)
