@@ -1138,6 +1138,30 @@ fn predict_rows_sample(
     Sampled::Sample(form_rows_sample(rows, plane, samples, x, y, horizontal, vertical))
 }
 
+/// The refusal is given: the callers compute it, since the compiler inlines both parts there, and not a function that has both.
+fn predict_rows_block(
+    number: u8,
+    rows: Rows,
+    plane: ReferencePlane,
+    samples: &[u8],
+    x: i32,
+    y: i32,
+    size: BlockSize,
+    horizontal: i32,
+    vertical: i32,
+    out: &mut [u8],
+) -> Predicted
+    requires { ⌜ RowsFit rows (plane .height) × (number ≡ blockRefusal (plane .width) (plane .height) (length (now samples)) x y (size .width) (size .height) (length (now out))) ⌝ }
+    ensures answer { λ r. ⌜ r ≡ blockAnswer (blockRefusal (plane .width) (plane .height) (length (now (samples .entry))) x y (size .width) (size .height) (length (now (out .entry)))) ⌝ }
+    ensures buffer { λ r. ⌜ now (out .exit) ≡ unlessRefused (blockNumber r) (predictedBlock rounded (rowsSample rows (plane .width) (plane .height) (now (samples .entry))) (size .width) (size .height) x y horizontal vertical) (now (out .entry)) ⌝ }
+{
+    if number != 0 {
+        return Predicted::Refused(number);
+    }
+    form_rows(rows, plane, samples, x, y, size, horizontal, vertical, out);
+    Predicted::Done
+}
+
 // ---- the calls
 
 impl ReferencePlane {
@@ -1228,20 +1252,16 @@ pub fn predict_block(
     ensures answer { λ r. ⌜ r ≡ blockAnswer (blockRefusal (reference .width) (reference .height) (length (now (samples .entry))) «top_left_x» «top_left_y» (size .width) (size .height) (length (now (out .entry)))) ⌝ }
     ensures buffer { λ r. ⌜ now (out .exit) ≡ unlessRefused (blockNumber r) (predictedBlock rounded (sampleAt frame (reference .width) (reference .height) (now (samples .entry))) (size .width) (size .height) «top_left_x» «top_left_y» horizontal vertical) (now (out .entry)) ⌝ }
 {
-    let rows = frame_rows(reference.height);
-    let number = block_refusal(
-        reference,
-        samples.len(),
-        top_left_x,
-        top_left_y,
-        size,
-        out.len(),
-    );
-    if number != 0 {
-        return Predicted::Refused(number);
-    }
-    form_rows(
-        rows,
+    predict_rows_block(
+        block_refusal(
+            reference,
+            samples.len(),
+            top_left_x,
+            top_left_y,
+            size,
+            out.len(),
+        ),
+        frame_rows(reference.height),
         reference,
         samples,
         top_left_x,
@@ -1250,8 +1270,7 @@ pub fn predict_block(
         horizontal,
         vertical,
         out,
-    );
-    Predicted::Done
+    )
 }
 
 /// The same from a field: the position and the vector count the field's lines.
@@ -1268,20 +1287,16 @@ pub fn predict_field_block(
     ensures answer { λ r. ⌜ r ≡ blockAnswer (blockRefusal (reference .plane .width) (reference .plane .height) (length (now (samples .entry))) «top_left_x» «top_left_y» (size .width) (size .height) (length (now (out .entry)))) ⌝ }
     ensures buffer { λ r. ⌜ now (out .exit) ≡ unlessRefused (blockNumber r) (predictedBlock rounded (sampleAt (field (reference .parity)) (reference .plane .width) (reference .plane .height) (now (samples .entry))) (size .width) (size .height) «top_left_x» «top_left_y» horizontal vertical) (now (out .entry)) ⌝ }
 {
-    let rows = field_rows(reference);
-    let number = block_refusal(
-        reference.plane,
-        samples.len(),
-        top_left_x,
-        top_left_y,
-        size,
-        out.len(),
-    );
-    if number != 0 {
-        return Predicted::Refused(number);
-    }
-    form_rows(
-        rows,
+    predict_rows_block(
+        block_refusal(
+            reference.plane,
+            samples.len(),
+            top_left_x,
+            top_left_y,
+            size,
+            out.len(),
+        ),
+        field_rows(reference),
         reference.plane,
         samples,
         top_left_x,
@@ -1290,6 +1305,5 @@ pub fn predict_field_block(
         horizontal,
         vertical,
         out,
-    );
-    Predicted::Done
+    )
 }
