@@ -9,7 +9,6 @@ use lib.IntN.{ℤ, pos, _+ℤ_}
 use lib.ListN.{length}
 use mir.Syntax.{w32}
 use mir.Val.{SFits}
-use Rattle.laws.specs.Tabulate.{tabulate}
 use Rattle.laws.proofs.Signed.{eq-z, add-z}
 use Rattle.laws.proofs.Bounded.{Within, within-add, within-fits, fits-within}
 use Rattle.laws.proofs.Tabulated.{tab-ext}

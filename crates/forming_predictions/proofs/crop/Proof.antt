@@ -5,7 +5,7 @@ use Prim.Native.Nat.{ℕ, _+_, _-_, _*_, _/_, _%_, _≤_}
 use native.Mathlib.Nat.{zero-mul}
 use native.Mathlib.Omega.{arith}
 use lib.Arith.{digits-div, digits-mod}
-use lib.ListN.{length, getD, take, drop}
+use lib.ListN.{length, getD}
 use Rattle.laws.proofs.Filled.{Filled, filled-none, filled-length, filled-part, filled-all}
 use Rattle.laws.proofs.Parts.{part-length}
 use Rattle.forming_predictions.proofs.Blocks.{row-in, next-row, all-rows, part-tab}

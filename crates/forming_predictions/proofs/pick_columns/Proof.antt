@@ -3,7 +3,7 @@
 use mathlib.Core.Path.{_≡_, refl, _∙_}
 use Prim.Native.Nat.{_≤_}
 use native.Mathlib.Omega.{arith}
-use lib.ListN.{length, take, drop}
+use lib.ListN.{length}
 use lib.Seq.{getD-take}
 use borrow.Rule.Slice.PartMut.{putMid}
 use Rattle.laws.proofs.Filled.{Filled, filled-length, filled-step}
