@@ -162,7 +162,8 @@ pub updated-all : (r : PredictorUpdate) (pmv : Pmv) (x : PmvUpdateContext)
     × ((updateNumber (r .answer) ≡ updateRefusal x)
     × (updateValue (r .answer) ≡ valueUnless (updateNumber (r .answer)) (updateOutcome x)))
 unfolding updated
-updated-all r pmv x e =
-    (e,
-    promised updateAnswer updateNumber updateValue update-parts (r .answer) (updateRefusal x) (updateOutcome x)
-    (ap (λ (u : PredictorUpdate). u .answer) e))
+updated-all r pmv x e = (
+  e,
+  promised updateAnswer updateNumber updateValue update-parts (r .answer) (updateRefusal x) (updateOutcome x)
+      (ap (λ (u : PredictorUpdate). u .answer) e),
+)
