@@ -2,7 +2,7 @@
 # make test            the gate: prove everything from nothing, try the must-fail edits, run the programs
 # make differential    build the Rust original and see that the lists in the repository are its answers
 # make lists           make those lists anew
-# make bench           measure the port beside the Rust original, and print a table
+# make bench           measure the port beside the Rust original, and print tables
 # The last three need cargo and the Rust original. FOZDRIK_RUST is the folder that holds its LICENSE and src/, by default
 # ../shared/docs/src; a relative path starts here.
 
@@ -27,8 +27,10 @@ lists:
 
 bench:
 	@mkdir -p build/bench
-	@$(RT) staticlib bench_blocks >build/bench.log 2>&1 || { tail -n 40 build/bench.log; exit 1; }
-	@cp target/staticlib/libbench_blocks.a build/bench/
+	@for library in bench_blocks bench_pmv; do \
+		$(RT) staticlib $$library >build/bench.log 2>&1 || { tail -n 40 build/bench.log; exit 1; }; \
+		cp target/staticlib/lib$$library.a build/bench/ || exit 1; \
+	done
 	cd differential && $(CARGO) run --release --offline --features bench --bin bench
 
 clean:

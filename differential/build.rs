@@ -1,6 +1,6 @@
 //! Writes `oracle.rs`, the declarations that make the ten files of the original
 //! modules of the library. They are compiled where they lie: neither copied nor edited.
-//! With the feature `bench`, hands the port's library to the linker.
+//! With the feature `bench`, hands the port's libraries to the linker.
 
 use std::env;
 use std::error::Error;
@@ -11,13 +11,13 @@ use std::path::{Path, PathBuf};
 /// Names the folder that holds the original's `LICENSE` and `src/`.
 const ORIGINAL: &str = "FOZDRIK_RUST";
 /// Where that folder is if the variable is not set. Relative paths, this one, the
-/// variable's and those of the library, start at the root of the repository.
+/// variable's and those of the libraries, start at the root of the repository.
 const ORIGINAL_DEFAULT: &str = "../shared/docs/src";
 
-/// Names the folder that holds the port's library.
+/// Names the folder that holds the port's libraries.
 const LIBRARY: &str = "FOZDRIK_LIBRARY";
 const LIBRARY_DEFAULT: &str = "build/bench";
-const LIBRARY_FILE: &str = "libbench_blocks.a";
+const LIBRARY_FILES: [&str; 2] = ["libbench_blocks.a", "libbench_pmv.a"];
 
 const MODULES: [&str; 10] = [
     "combine_predictions",
@@ -33,7 +33,7 @@ const MODULES: [&str; 10] = [
 ];
 
 fn main() {
-    if let Err(message) = write_declarations().and_then(|()| link_library()) {
+    if let Err(message) = write_declarations().and_then(|()| link_libraries()) {
         println!("cargo::error={message}");
     }
 }
@@ -61,20 +61,22 @@ fn write_declarations() -> Result<(), Box<dyn Error>> {
     Ok(())
 }
 
-fn link_library() -> Result<(), Box<dyn Error>> {
+fn link_libraries() -> Result<(), Box<dyn Error>> {
     if env::var_os("CARGO_FEATURE_BENCH").is_none() {
         return Ok(());
     }
     let (given, folder) = folder(LIBRARY, LIBRARY_DEFAULT)?;
-    let file = there(&folder.join(LIBRARY_FILE)).map_err(|cause| {
-        format!(
-            "the port's library is not there: {cause}. Set {LIBRARY} to the folder that holds \
-             {LIBRARY_FILE} (now {given:?}; a relative path starts at the root of the \
-             repository)",
-        )
-    })?;
-    // The binary alone: a library that cargo links goes into `oracle`, and so into `lists`.
-    println!("cargo::rustc-link-arg-bin=bench={file}");
+    for name in LIBRARY_FILES {
+        let file = there(&folder.join(name)).map_err(|cause| {
+            format!(
+                "a library of the port is not there: {cause}. Set {LIBRARY} to the folder that \
+                 holds {} (now {given:?}; a relative path starts at the root of the repository)",
+                LIBRARY_FILES.join(" and "),
+            )
+        })?;
+        // The binary alone: a library that cargo links goes into `oracle`, and so into `lists`.
+        println!("cargo::rustc-link-arg-bin=bench={file}");
+    }
     Ok(())
 }
 

@@ -5,6 +5,7 @@
 // The files name the crate `oxideav_core`; its one item they use is a shim here.
 extern crate self as oxideav_core;
 
+pub mod refusals;
 pub mod rng;
 mod shims;
 

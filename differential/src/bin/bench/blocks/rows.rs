@@ -1,9 +1,9 @@
-//! The rows of the table: which blocks are predicted.
+//! The rows of the table of blocks: which are predicted.
 
 use oracle::forming_predictions::{BlockSize, HalfPattern};
 use oracle::rng::Rng;
 
-use crate::calls::{Call, Reference};
+use super::calls::{Call, Reference};
 
 pub const WIDTH: usize = 720;
 pub const HEIGHT: usize = 576;

@@ -1,0 +1,66 @@
+//! Document 01's numbers for the original's refusals of vectors and updates.
+
+use crate::Error;
+
+/// The original's texts, with the numbers.
+const NUMBERS: [(&str, u8); 12] = [
+    ("compute_delta: f_code outside the §6.3.11 1..=9 range", 1),
+    ("vector_range: f_code outside the §6.3.11 1..=9 range", 1),
+    (
+        "compute_delta: motion_residual present when §6.2.5.2.1 forbids it (f == 1 or motion_code == 0)",
+        3,
+    ),
+    (
+        "compute_delta: motion_residual absent when §6.2.5.2.1 requires it (f != 1 && motion_code != 0)",
+        4,
+    ),
+    (
+        "reconstruct_component: delta outside [low, high] range (§7.6.3.2)",
+        5,
+    ),
+    (
+        "reconstruct_component: vector' still outside [low, high] after wrap (§7.6.3.1)",
+        6,
+    ),
+    (
+        "update_predictors: intra macroblock with a motion flag set (excluded by Tables B-2/B-3/B-4)",
+        7,
+    ),
+    (
+        "update_predictors: non-intra macroblock with absent motion_type (§6.3.17.1 forbids)",
+        8,
+    ),
+    (
+        "update_predictors: Frame-based motion type in a field picture (Table 7-11 has no such row)",
+        9,
+    ),
+    (
+        "update_predictors: 16x8 MC motion type in a frame picture (Table 7-10 has no such row)",
+        10,
+    ),
+    (
+        "update_predictors: Dual-Prime row only accepts (fwd=1, bwd=0) per Tables 7-10/7-11",
+        11,
+    ),
+    (
+        "update_predictors: Field-based/16x8 row with both motion flags zero is not listed in Tables 7-10/7-11",
+        12,
+    ),
+];
+
+/// The text of the test that document 01 says never fails.
+const NEVER: &str = "reconstruct_component: new PMV outside expected range";
+
+/// The number of a refusal, or why it has none.
+pub fn number(error: Error) -> Result<u8, String> {
+    let Error::InvalidBitstream(text) = error else {
+        return Err(format!("the original refuses as a parser does: {error:?}"));
+    };
+    if text == NEVER {
+        return Err("the test that never fails has failed".to_owned());
+    }
+    match NUMBERS.iter().find(|(known, _)| *known == text) {
+        Some((_, number)) => Ok(*number),
+        None => Err(format!("document 01 has no number for: {text}")),
+    }
+}
