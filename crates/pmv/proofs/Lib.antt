@@ -4,6 +4,7 @@ pub mod Answers
 pub mod Deltas
 pub mod Ranges
 pub mod Rows
+pub mod Lists
 pub mod Vectors
 pub mod Facts
 pub mod Chrominance

@@ -3,7 +3,9 @@ use crate::kinds::Component;
 use crate::kinds::Direction;
 use crate::kinds::VectorIndex;
 ghost use mathlib.Core.Path.{_≡_};
+ghost use mathlib.Core.Bool.{cond};
 ghost use Prim.Native.Nat.{_<_};
+ghost use lib.Dec.{eqb};
 ghost use Rattle.pmv.specs.Predictors.{pmvIndex, predictor, stored, zeroed, firstCopied};
 
 /// The eight predictors in half samples: PMV\[r\]\[s\]\[t\] is at 4r + 2s + t.
@@ -15,6 +17,16 @@ fn place_of(r: VectorIndex, s: Direction, t: Component) -> usize
     ensures { λ k. ⌜ (k ≡ pmvIndex r s t) × (k < 8) ⌝ }
 {
     r.index() * 4 + s.index() * 2 + t.index()
+}
+
+/// What is at a place after `value` was put at place k.
+fn put(k: usize, at: usize, value: i32, old: i32) -> i32
+    ensures { λ r. ⌜ r ≡ cond (eqb k at) value old ⌝ }
+{
+    if k == at {
+        return value;
+    }
+    old
 }
 
 impl Pmv {
@@ -40,13 +52,25 @@ impl Pmv {
         self.values[k]
     }
 
-    /// The predictors with `value` at PMV\[r\]\[s\]\[t\].
-    pub fn with(mut self, r: VectorIndex, s: Direction, t: Component, value: i32) -> Self
+    /// The predictors with `value` at PMV\[r\]\[s\]\[t\]. All eight are chosen one by one, and none is stored at a place that has to be computed:
+    /// a record that was stored to in one place is slow to copy as a whole.
+    pub fn with(self, r: VectorIndex, s: Direction, t: Component, value: i32) -> Self
         ensures { λ p. ⌜ p ≡ stored self r s t value ⌝ }
     {
         let k = place_of(r, s, t);
-        self.values[k] = value;
-        self
+        let v = self.values;
+        Pmv {
+            values: [
+                put(k, 0, value, v[0]),
+                put(k, 1, value, v[1]),
+                put(k, 2, value, v[2]),
+                put(k, 3, value, v[3]),
+                put(k, 4, value, v[4]),
+                put(k, 5, value, v[5]),
+                put(k, 6, value, v[6]),
+                put(k, 7, value, v[7]),
+            ],
+        }
     }
 
     /// The predictors with the first vector's of a direction copied to the second's.

@@ -16,7 +16,6 @@ ghost use Rattle.pmv.specs.Component.{halves};
 ghost use Rattle.pmv.specs.Vector.{ported, partRefusal, part, decoded, reconstructed, vectorRefusal, components};
 ghost use Rattle.pmv.specs.inner.Steps.{joined};
 ghost use Rattle.pmv.specs.Answers.{reconstructedNumber, reconstructedValue, vectorNumber, vectorValue};
-ghost use Rattle.pmv.specs.declared.kinds.Component.the-variants.{Vertical};
 
 /// What the stream has of a vector: a motion_code and a motion_residual for each component.
 pub struct MotionVector {
@@ -115,45 +114,31 @@ pub fn decoded_motion_vector(
     )
 }
 
-/// The vertical component, after the horizontal one.
-fn decode_vertical(
+/// The vertical component's answer, after the horizontal component was stored.
+fn with_vertical(
     pmv: Pmv,
     horizontal: ReconstructedComponent,
-    motion_code: i32,
-    motion_residual: MotionResidual,
+    vertical: Reconstructed,
     r: VectorIndex,
     s: Direction,
-    f_code: u8,
-    mv_format: MvFormat,
-    picture: PictureStructure,
 ) -> DecodedVector
-    ensures { λ d. ⌜ d ≡ joined horizontal (decoded pmv r s Vertical «f_code» «motion_code» «motion_residual» (halves «mv_format» picture Vertical) ported) ⌝ }
+    ensures { λ d. ⌜ d ≡ joined horizontal vertical r s pmv ⌝ }
 {
-    let vertical = decode(
-        pmv,
-        r,
-        s,
-        Component::Vertical,
-        motion_code,
-        motion_residual,
-        f_code,
-        mv_format,
-        picture,
-    );
-    let kept = vertical.pmv;
-    let answer = vertical.answer;
-    match answer {
+    match vertical {
         Reconstructed::Refused(number) => DecodedVector {
             answer: ReconstructedVector::Refused(number),
-            pmv: kept,
+            pmv: pmv,
         },
-        Reconstructed::Component(c) => DecodedVector {
-            answer: ReconstructedVector::Components(VectorComponents {
-                horizontal: horizontal,
-                vertical: c,
-            }),
-            pmv: kept,
-        },
+        Reconstructed::Component(c) => {
+            let kept = pmv.with(r, s, Component::Vertical, c.new_pmv);
+            DecodedVector {
+                answer: ReconstructedVector::Components(VectorComponents {
+                    horizontal: horizontal,
+                    vertical: c,
+                }),
+                pmv: kept,
+            }
+        }
     }
 }
 
@@ -172,38 +157,35 @@ pub fn reconstructed_motion_vector(
     ensures number { λ d. ⌜ vectorNumber (d .answer) ≡ vectorRefusal pmv mv r s «f_code_horiz» «f_code_vert» «mv_format» picture ported ⌝ }
     ensures value { λ d. ⌜ vectorValue (d .answer) ≡ valueUnless (vectorNumber (d .answer)) (components pmv mv r s «f_code_horiz» «f_code_vert» «mv_format» picture) ⌝ }
 {
-    let residual = mv.motion_residual_horiz;
-    let horizontal = decode(
-        pmv,
-        r,
-        s,
-        Component::Horizontal,
+    let prior_horiz = pmv.get(r, s, Component::Horizontal);
+    let prior_vert = pmv.get(r, s, Component::Vertical);
+    let residual_horiz = mv.motion_residual_horiz;
+    let residual_vert = mv.motion_residual_vert;
+    match reconstruct_component(
         mv.motion_code_horiz,
-        residual,
+        residual_horiz,
         f_code_horiz,
+        prior_horiz,
         mv_format,
         picture,
-    );
-    let kept = horizontal.pmv;
-    let answer = horizontal.answer;
-    match answer {
+        Component::Horizontal,
+    ) {
         Reconstructed::Refused(number) => DecodedVector {
             answer: ReconstructedVector::Refused(number),
-            pmv: kept,
+            pmv: pmv,
         },
         Reconstructed::Component(c) => {
-            let rest = mv.motion_residual_vert;
-            decode_vertical(
-                kept,
-                c,
+            let kept = pmv.with(r, s, Component::Horizontal, c.new_pmv);
+            let vertical = reconstruct_component(
                 mv.motion_code_vert,
-                rest,
-                r,
-                s,
+                residual_vert,
                 f_code_vert,
+                prior_vert,
                 mv_format,
                 picture,
-            )
+                Component::Vertical,
+            );
+            with_vertical(kept, c, vertical, r, s)
         }
     }
 }
