@@ -103,8 +103,7 @@ slice-aggregate-crop t c = search needs
 crop-requires : (t : ℕ) → lts.Need-crop-requires (calls t) (given t) form-clamped.Post
 crop-requires t c κs =
     let f = c .before .before .before in
-    let s = f .before .before .before .before .before .before in
-    let b = s .pre .1 .3 in
+    let b = f .before .before .before .before .before .before .pre .1 .3 in
     (ap length (f .form-clamped .ensures) ∙ block-length 16 16 _ _ _, b .some, b .wide, b .high, b .count)
 
 same-length-2 : (t : ℕ) → lts.Need-same-length-2 (calls t) (given t) form-clamped.Post

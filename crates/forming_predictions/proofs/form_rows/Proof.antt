@@ -52,8 +52,7 @@ form-requires : tie.Need-form-requires
 form-requires c κs =
     let h2 = c .before in
     let m2 = h2 .before .before in
-    let e = m2 .before .before in
-    let s = start e in
+    let s = start (m2 .before .before) in
     let r = right s in
     let p = r .plane in (
       rows-readable (s .pre .0) (p .wide) (p .high) (p .count),

@@ -153,8 +153,7 @@ slice-write-out-2 c =
 
 same-length-4 : tie.Need-same-length-4
 same-length-4 c =
-    let u = c .before .before .before .before .before in
-    filled-length (filled-step (second u) (slice-write-out-2 c) refl)
+    filled-length (filled-step (second (c .before .before .before .before .before)) (slice-write-out-2 c) refl)
 
 returns-4 : tie.Need-returns-4
 returns-4 c =

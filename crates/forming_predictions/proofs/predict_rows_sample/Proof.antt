@@ -8,7 +8,6 @@ use Rattle.forming_predictions.specs.Forming.{formed}
 use Rattle.forming_predictions.specs.inner.Views.{rowsSample}
 use Rattle.forming_predictions.specs.SampleAnswers.{sampleAnswer}
 use Rattle.forming_predictions.proofs.SampleAnswers.{refused-sample, given-sample}
-use mathlib.Core.Path.{sym, ap, _∙_}
 use borrow.Author.Needs.{needs}
 use Rattle.forming_predictions.proofs.predict_rows_sample.Statement.{statement}
 use Rattle.forming_predictions.proofs.predict_rows_sample.Tie as tie

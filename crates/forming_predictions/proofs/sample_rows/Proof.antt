@@ -6,7 +6,6 @@ use mir.Facts.{toZ-ofZ}
 use Rattle.forming_predictions.specs.inner.Views.{rowsSample}
 use Rattle.forming_predictions.specs.SampleAnswers.{sampleAnswer}
 use Rattle.forming_predictions.proofs.SampleAnswers.{refused-sample, given-sample}
-use mathlib.Core.Path.{sym, ap, _∙_}
 use borrow.Author.Needs.{needs}
 use Rattle.forming_predictions.proofs.sample_rows.Statement.{statement}
 use Rattle.forming_predictions.proofs.sample_rows.Tie as tie
@@ -17,8 +16,7 @@ plane-refusal-requires c κs = search needs
 returns : tie.Need-returns
 returns c =
     let n = c .before .plane-refusal in
-    let s = c .before .before .before in
-    let a = s .args in
+    let a = c .before .before .before .args in
     let v = rowsSample (a .rows) (a .plane .width) (a .plane .height) (a .samples .now) (a .x) (a .y) in
     refused-sample (n .result) v (c .if1 .taken) ∙ ap (λ (k : ℕ). sampleAnswer k v) (n .ensures)
 

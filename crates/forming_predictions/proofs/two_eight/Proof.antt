@@ -52,8 +52,7 @@ returns : tie.Need-returns
 returns c =
     let e = c .before .before in
     let m = e .before .before .before .before in
-    let s = m .before .before .before .before .before .before .before in
-    e .copy-eight .ensures ∙ m .mean2-samples .ensures ∙ two-parts (s .pre .0)
+    e .copy-eight .ensures ∙ m .mean2-samples .ensures ∙ two-parts (m .before .before .before .before .before .before .before .pre .0)
 
 pub two-eight-spec : {M : Type 1} → statement M
 two-eight-spec =

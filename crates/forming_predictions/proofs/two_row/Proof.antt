@@ -42,9 +42,7 @@ same-length : tie.Need-same-length
 same-length c = search needs
 
 returns : tie.Need-returns
-returns c =
-    let t = c .before .before .before in
-    whole (first t) (omega (arith, filled-length (first t), c .if1 .taken))
+returns c = whole (first (c .before .before .before)) (omega (arith, filled-length (first (c .before .before .before)), c .if1 .taken))
 
 add-two-eight : tie.Need-add-two-eight
 add-two-eight c = search needs
@@ -71,9 +69,8 @@ returns-2 : tie.Need-returns-2
 returns-2 c =
     let u = c .before .before in
     let e = u .before .before in
-    let t = early e in
-    let a = start t .args in
-    whole (sixteen (first t) (omega (arith, more e)) (u .two-eight2 .ensures) (λ i h. two-next (a .row .now) (a .below .now) (a .x) (a .dx) i)) (more e)
+    let a = start (early e) .args in
+    whole (sixteen (first (early e)) (omega (arith, more e)) (u .two-eight2 .ensures) (λ i h. two-next (a .row .now) (a .below .now) (a .x) (a .dx) i)) (more e)
 
 pub two-row-spec : {M : Type 1} → statement M
 two-row-spec =
