@@ -1035,7 +1035,8 @@ fn form_rows(
 
 // ---- refusals
 
-fn plane_fits(plane: ReferencePlane, length: usize) -> bool
+/// Whether a plane with so many samples is in the domain.
+pub fn plane_fits(plane: ReferencePlane, length: usize) -> bool
     ensures { λ r. ⌜ r ≡ planeFits (plane .width) (plane .height) length ⌝ }
 {
     if plane.width > LARGEST_SIDE {

@@ -1,0 +1,93 @@
+-- What the tests of the calls say.
+-- Assumes nothing.
+use mathlib.Core.Path.{_≡_, refl, sym, _∙_}
+use mathlib.Core.Bool.{Bool, true, false, not, _&&_, _||_}
+use Prim.Native.Nat.{ℕ, zero, suc, _+_, _*_}
+use native.Mathlib.Omega.{arith}
+use lib.Dec.{ltb}
+use lib.ListN.{length}
+use borrow.Author.Tests.{ltb-false}
+use Rattle.laws.proofs.Tests.{not-taken, not-left, both}
+use Rattle.combine_predictions.specs.Refusals.{unlessRefused}
+use Rattle.forming_predictions.specs.Means.{rounded}
+use Rattle.forming_predictions.specs.Refusals.{planeFits}
+use Rattle.pmv.specs.declared.kinds.ChromaFormat.{ChromaFormat}
+use Rattle.inter_reconstruction.specs.declared.frames.FrameBuffer.{FrameBuffer}
+use Rattle.inter_reconstruction.specs.declared.motion.DirectionMotion.{DirectionMotion}
+use Rattle.inter_reconstruction.specs.declared.motion.Uses.the-variants.{Forward, Backward}
+use Rattle.inter_reconstruction.specs.declared.macroblock.MacroblockPrediction.{MacroblockPrediction}
+use Rattle.inter_reconstruction.specs.declared.macroblock.MacroblockPrediction.the-variants.{Refused}
+use Rattle.inter_reconstruction.specs.Components.{ColourComponent, luma, cb, cr, blockWidth, blockHeight, macroblockBytes}
+use Rattle.inter_reconstruction.specs.Frames.{Samples, lengthsOf, planeOf, Reading}
+use Rattle.inter_reconstruction.specs.Macroblock.{usedSample, rectangle, macroblock, predicted}
+use Rattle.inter_reconstruction.specs.Refusals.{planesFit}
+use Rattle.inter_reconstruction.specs.Answers.{predictionNumber, predictionAnswer}
+use Rattle.inter_reconstruction.specs.inner.Planes.{FrameFits, CellFits}
+
+-- `if !f(..)`, taken and left, where f's result x is the definition's y
+pub was-false : (x y : Bool) → x ≡ y → not x ≡ true → y ≡ false
+was-false x y e t = sym e ∙ not-taken x t
+
+pub was-true : (x y : Bool) → x ≡ y → not x ≡ false → y ≡ true
+was-true x y e t = sym e ∙ not-left x t
+
+neither : (x y : Bool) → (x || y) ≡ false → (x ≡ false) × (y ≡ false)
+neither true y e = let z : _≡_ {A = ℕ} 0 1 = cc in absurd (omega arith)
+neither false y e = (refl, e)
+
+-- every plane fits
+abbrev plane-fits : FrameBuffer → Samples → ColourComponent → Bool
+plane-fits b s c = planeFits (planeOf b c .width) (planeOf b c .height) (length (s c))
+
+pub frame-fits : (b : FrameBuffer) (s : Samples) → planesFit b (lengthsOf s) ≡ true → FrameFits b s
+unfolding planesFit
+frame-fits b s e c = go c
+  where
+    t : (plane-fits b s luma ≡ true) × ((plane-fits b s cb && plane-fits b s cr) ≡ true)
+    t = both (plane-fits b s luma) (plane-fits b s cb && plane-fits b s cr) e
+
+    u : (plane-fits b s cb ≡ true) × (plane-fits b s cr ≡ true)
+    u = both (plane-fits b s cb) (plane-fits b s cr) (t .1)
+
+    go : (c : ColourComponent) → plane-fits b s c ≡ true
+    go luma = t .0
+    go cb = u .0
+    go cr = u .1
+
+-- the cell and the output fit
+pub cell-fits : (f : ChromaFormat) (col row n w h : ℕ)
+    → (ltb 1023 col || ltb 1023 row) ≡ false
+    → w ≡ blockWidth f cb
+    → h ≡ blockHeight f cb
+    → n ≡ 256 + (w * h + w * h)
+    → CellFits f col row n
+cell-fits f col row n w h e ew eh c =
+    let t = neither (ltb 1023 col) (ltb 1023 row) e in
+    record { column = ltb-false 1023 col (t .0); line = ltb-false 1023 row (t .1); count = c ∙ rw (ew, eh) }
+
+pub bytes-are : (f : ChromaFormat) (w h : ℕ) → w ≡ blockWidth f cb → h ≡ blockHeight f cb → 256 + (w * h + w * h) ≡ macroblockBytes f
+bytes-are f w h ew eh = rw (ew, eh)
+
+-- ---- answers
+pub refused-answer : (n : ℕ) → (n ≡ 0 → ⊥) → Refused n ≡ predictionAnswer n
+refused-answer zero h = absurd (h refl)
+refused-answer (suc n) h = refl
+
+pub answer-number : (n : ℕ) → predictionNumber (predictionAnswer n) ≡ n
+answer-number zero = refl
+answer-number (suc n) = refl
+
+-- a buffer that was written by the number is written by the answer
+pub by-answer : {A : Type 0} (r : MacroblockPrediction) (n : ℕ) (o new old : A)
+    → r ≡ predictionAnswer n → o ≡ unlessRefused n new old → o ≡ unlessRefused (predictionNumber r) new old
+by-answer r n o new old e w = w ∙ rw (e, answer-number n)
+
+-- ---- a direction that is not used is not read
+module _ (f : ChromaFormat) (forward backward other : ColourComponent → Reading) (d : DirectionMotion) (col row : ℕ) where
+  pub forward-alone : predicted rounded f forward other (Forward d) col row ≡ predicted rounded f forward backward (Forward d) col row
+  unfolding macroblock rectangle usedSample
+  forward-alone = refl
+
+  pub backward-alone : predicted rounded f other backward (Backward d) col row ≡ predicted rounded f forward backward (Backward d) col row
+  unfolding macroblock rectangle usedSample
+  backward-alone = refl

@@ -1,0 +1,73 @@
+-- `predict_cell` meets its contract.
+-- Assumes nothing.
+use mathlib.Core.Path.{_≡_, refl, sym, _∙_}
+use Prim.Native.Nat.{_+_, _*_, _≤_}
+use native.Mathlib.Omega.{arith}
+use lib.ListN.{length}
+use borrow.Author.Needs.{needs}
+use borrow.Author.Tests.{eq-eqb, ne-eqb}
+use Rattle.inter_reconstruction.proofs.Cells.{chroma-small}
+use Rattle.inter_reconstruction.specs.Components.{macroblockBytes}
+use Rattle.inter_reconstruction.proofs.Checks.{cell-fits, bytes-are}
+use Rattle.inter_reconstruction.proofs.macroblock.predict_cell.Tie as tie
+use Rattle.inter_reconstruction.proofs.macroblock.predict_cell.Statement.{statement}
+
+abbrev start : tie.After-chroma-mb-extent → tie.Start
+start c = c .before .before .before .before .before .before .before .before .before
+
+small : (c : tie.After-chroma-mb-extent) → (let s = c .chroma-mb-extent .result in s .width * s .height ≤ 256)
+small c = chroma-small (start c .args .dest .«chroma_format») _ _ (c .chroma-mb-extent .ensures .0) (c .chroma-mb-extent .ensures .1)
+
+bytes : (c : tie.After-chroma-mb-extent)
+    → (let s = c .chroma-mb-extent .result in 256 + (s .width * s .height + s .width * s .height) ≡ macroblockBytes (start c .args .dest .«chroma_format»))
+bytes c = bytes-are (start c .args .dest .«chroma_format») _ _ (c .chroma-mb-extent .ensures .0) (c .chroma-mb-extent .ensures .1)
+
+returns : tie.Need-returns
+returns c = rw (c .if1 .taken) (refl, refl)
+
+chroma-mb-extent-requires : tie.Need-chroma-mb-extent-requires
+chroma-mb-extent-requires c κs = search needs
+
+mul-n : tie.Need-mul-n
+mul-n c = omega (arith, small (c .before))
+
+add-if2 : tie.Need-add-if2
+add-if2 c = omega (arith, small (c .before))
+
+add-if2-2 : tie.Need-add-if2-2
+add-if2-2 c = omega (arith, small (c .before))
+
+returns-2 : tie.Need-returns-2
+returns-2 c =
+    let e = c .before .before in
+    rw (e .before .if1 .left, ne-eqb _ _ (λ z. c .if2 .taken (z ∙ sym (bytes e)))) (refl, refl)
+
+predict-used-requires : tie.Need-predict-used-requires
+predict-used-requires c κs =
+    let e = c .before .before .before in
+    let a = start e .args in
+    cell-fits (a .dest .«chroma_format») (a .mb-col) (a .mb-row) (length (a .out .now)) _ _ (e .before .if1 .left) (e .chroma-mb-extent .ensures .0) (e .chroma-mb-extent .ensures .1) (c .before .if2 .left)
+
+same-length : tie.Need-same-length
+same-length c = search needs
+
+returns-3 : tie.Need-returns-3
+returns-3 c =
+    let f = c .before .before in
+    let g = f .before .before in
+    let e = g .before .before in
+    rw (e .before .if1 .left, eq-eqb _ _ (g .if2 .left ∙ bytes e)) (f .predict-used .ensures)
+
+pub predict-cell-spec : {M : Type 1} → statement M
+predict-cell-spec =
+    tie.close
+    (tie.spec
+    returns
+    chroma-mb-extent-requires
+    mul-n
+    add-if2
+    add-if2-2
+    returns-2
+    predict-used-requires
+    same-length
+    returns-3)

@@ -1,0 +1,57 @@
+-- ISO/IEC 13818-2, 7.6.4 to 7.6.7: the predicted samples of a macroblock of a frame picture, over the arithmetic of means.
+use mathlib.Core.List.{List, _++_}
+use Prim.Native.Nat.{ℕ, _+_, _*_, _/_, _%_}
+use lib.IntN.{pos}
+use Rattle.laws.specs.Tabulate.{tabulate}
+use Rattle.forming_predictions.specs.Lines.{frame, field}
+use Rattle.forming_predictions.specs.Means.{Means}
+use Rattle.forming_predictions.specs.Forming.{formed}
+use Rattle.pmv.specs.declared.kinds.ChromaFormat.{ChromaFormat}
+use Rattle.inter_reconstruction.specs.Components.{ColourComponent, luma, cb, cr, blockWidth, blockHeight}
+use Rattle.inter_reconstruction.specs.Motion.{usesOf, fieldVectorOf}
+use Rattle.inter_reconstruction.specs.Frames.{Reading}
+use Rattle.inter_reconstruction.specs.declared.motion.FieldVector.{FieldVector}
+use Rattle.inter_reconstruction.specs.declared.motion.DirectionMotion.{DirectionMotion}
+use Rattle.inter_reconstruction.specs.declared.motion.DirectionMotion.the-variants.{Frame, Field}
+use Rattle.inter_reconstruction.specs.declared.motion.Uses.{Uses}
+use Rattle.inter_reconstruction.specs.declared.motion.Uses.the-variants.{Forward, Backward, Both}
+
+-- ---- one sample
+
+-- a field's vector, at column x of that field's line
+unfoldable pub fieldSample : Means → Reading → FieldVector → ℕ → ℕ → ℕ
+fieldSample m read u x line =
+    formed m (read (field (u .«reference_field»))) (pos x) (pos line) (u .vector .horizontal) (u .vector .vertical)
+
+-- one direction's prediction of the sample at column x and row y of a plane. Row y of a frame is line y / 2 of the field that y's parity names,
+-- whose vector it goes by; which field is read is that vector's own choice. proofs/Rectangles.antt (interleaved-is) shows document 01's form of
+-- it: two field blocks from line base / 2 on, interleaved.
+unfoldable pub directionSample : Means → Reading → DirectionMotion → ℕ → ℕ → ℕ
+directionSample m read (Frame v) x y = formed m (read frame) (pos x) (pos y) (v .horizontal) (v .vertical)
+directionSample m read (Field p) x y = fieldSample m read (fieldVectorOf p (y % 2)) x (y / 2)
+
+-- 7.6.7: of one direction, or of two
+unfoldable pub usedSample : Means → Reading → Reading → Uses → ℕ → ℕ → ℕ
+usedSample m forward backward (Forward d) x y = m .single (directionSample m forward d x y)
+usedSample m forward backward (Backward e) x y = m .single (directionSample m backward e x y)
+usedSample m forward backward (Both d e) x y = m .join (directionSample m forward d x y) (directionSample m backward e x y)
+
+-- ---- blocks
+
+-- w columns and h rows of a plane, by a rule for each sample, row after row; the first is at column x and row y
+unfoldable pub rectangle : ℕ → ℕ → (ℕ → ℕ → ℕ) → ℕ → ℕ → List ℕ
+rectangle w h rule x y = tabulate (w * h) (λ (k : ℕ). rule (x + k % w) (y + k / w))
+
+-- a macroblock's part in a component's plane: the macroblock in column `col` and row `row` of the picture's macroblocks
+abbrev pub part : ChromaFormat → ColourComponent → (ℕ → ℕ → ℕ) → ℕ → ℕ → List ℕ
+part f c rule col row =
+    rectangle (blockWidth f c) (blockHeight f c) rule (col * blockWidth f c) (row * blockHeight f c)
+
+-- the three parts
+unfoldable pub macroblock : ChromaFormat → (ColourComponent → ℕ → ℕ → ℕ) → ℕ → ℕ → List ℕ
+macroblock f rule col row = part f luma (rule luma) col row ++ (part f cb (rule cb) col row ++ part f cr (rule cr) col row)
+
+-- a macroblock's prediction
+abbrev pub predicted : Means → ChromaFormat → (ColourComponent → Reading) → (ColourComponent → Reading) → Uses → ℕ → ℕ → List ℕ
+predicted m f forward backward u col row =
+    macroblock f (λ (c : ColourComponent). usedSample m (forward c) (backward c) (usesOf f u c)) col row

@@ -1,0 +1,13 @@
+//! ISO/IEC 13818-2, 7.6.4 to 7.6.7: the prediction of a macroblock of a frame picture, frame-based and field-based, from one reference frame or
+//! two.
+
+/// Frames, and the sides of a macroblock's part in each of their planes.
+pub mod frames;
+/// The motion of a macroblock, and which directions it is predicted from.
+pub mod motion;
+/// The block of one component.
+mod blocks;
+/// The blocks of all three.
+mod planes;
+/// The calls.
+pub mod macroblock;
