@@ -2,7 +2,7 @@
 -- Assumes nothing.
 use mathlib.Core.Path.{_≡_, refl, sym, ap, _∙_}
 use mathlib.Core.Bool.{true, false}
-use mathlib.Core.List.{List}
+use mathlib.Core.List.{List, [], _∷_}
 use Prim.Native.Nat.{ℕ, zero, suc, _+_, _-_, _*_, _/_, _%_, _≤_, _<_}
 use native.Mathlib.Nat.{zero-add, one-mul, mul-comm, mul-le-mul, mul-le-mul-right, suc-mul, mod-lt, div-lt-iff-lt-mul}
 use native.Mathlib.Numerals.{add-one}
@@ -15,6 +15,7 @@ use lib.Seq.{length-take-le, take-at, getD-take}
 use borrow.Author.Tests.{leb-true}
 use Rattle.laws.specs.Tabulate.{tabulate}
 use Rattle.laws.proofs.Signed.{zp, zn, eq-z, add-z}
+use Rattle.laws.proofs.Rows.{row-in}
 use Rattle.laws.proofs.Tabulated.{tab-ext, length-tab, getD-tab, tab-append, tab-self}
 use Rattle.laws.proofs.Parts.{part-length, part-at}
 use Rattle.forming_predictions.specs.Lines.{clampTo}
@@ -23,22 +24,6 @@ use Rattle.forming_predictions.specs.inner.Views.{lineStart, viewRead, s
 use Rattle.forming_predictions.proofs.Lines.{clamp-in, clamp-lt}
 use Rattle.forming_predictions.proofs.Views.{empty-read}
 use Rattle.forming_predictions.proofs.RowMeans.{mean4-same}
-
--- row r of a block of w columns and h rows, in a buffer
-pub row-in : (r h w : ℕ) → r < h → r * w + w ≤ w * h
-row-in r h w l = omega (arith, mul-le-mul-right w l, suc-mul r w, mul-comm w h)
-
-pub next-row : (r w : ℕ) → (r + 1) * w ≡ r * w + w
-next-row r w = rw (add-one r) (suc-mul r w)
-
-pub all-rows : (r h w : ℕ) → r ≡ h → r * w ≡ w * h
-all-rows r h w e = rw e (mul-comm h w)
-
--- a part of a slice, as what its reads tabulate
-pub part-tab : (s : List ℕ) (a n : ℕ) → a + n ≤ length s → take (a + n - a) (drop a s) ≡ tabulate n (λ (k : ℕ). getD s (a + k) 0)
-part-tab s a n h =
-    let long : length (take (a + n - a) (drop a s)) ≡ n = part-length s a (a + n) h ∙ omega arith in
-    sym (tab-self (take (a + n - a) (drop a s))) ∙ rw long (tab-ext n _ _ (λ k l. part-at s a (a + n) k (omega arith)))
 
 -- sample c of row r
 pub row-of-block : (rule : ℤ → ℤ → ℕ) (x y : ℤ) (w r c : ℕ) → c < w
@@ -296,22 +281,29 @@ module _ {columns region : List ℕ} {w dx dy bw bh : ℕ} {o : List ℕ} (f : F
         region-count = front region ((bw + dx) * (bh + dy)) (omega (arith, region-most b, f .region-count));
       }
 
--- ---- a block that is cut out of a larger one
-pub crop-block : (rule : ℤ → ℤ → ℕ) (x y : ℤ) (bw bh : ℕ) {wide : List ℕ} → wide ≡ blockOf 16 16 rule x y → 0 < bw → bw ≤ 16 → bh ≤ 16
-    → tabulate (bw * bh) (λ (k : ℕ). getD wide (k / bw * 16 + k % bw) 0) ≡ blockOf bw bh rule x y
-unfolding blockOf
-crop-block rule x y bw bh {wide} e p q r =
-    tab-ext (bw * bh) _ _
-    (λ k h.
-    let row : k / bw < 16 = omega (arith, block-row bw bh k p h) in
-    let column : k % bw < 16 = omega (arith, mod-lt k p) in
-    rw e
-    (block-at 16 16 rule x y (k / bw * 16 + k % bw) (digits-lt row column) ∙ rw (digits-div (k / bw) column, digits-mod (k / bw) column)))
+-- ---- a view without samples reads as one of a single 0
+zero-read : (x y : ℤ) → viewRead (0 ∷ []) 1 0 1 1 x y ≡ 0
+unfolding viewRead
+zero-read x y =
+    let line : lineStart 0 1 1 (clampTo 1 y) + clampTo 1 x ≡ 0 = omega (arith, clamp-lt 1 x (omega arith), clamp-lt 1 y (omega arith)) in
+    rw line
 
--- ---- a block of a view without samples
+pub zero-view : ViewFits (0 ∷ []) 1 0 1 1
+zero-view =
+    record {
+      some = omega arith;
+      wide = omega arith;
+      low = omega arith;
+      apart = omega arith;
+      lines = omega arith;
+      high = omega arith;
+      room = λ j i. omega arith;
+    }
+
 pub empty-block : (s : List ℕ) (w first step count : ℕ) (x y : ℤ) (dx dy bw bh : ℕ) → length s ≡ 0
-    → tabulate (bw * bh) (λ (k : ℕ). 0) ≡ blockOf bw bh (λ (a b : ℤ). spread (viewRead s w first step count) a b dx dy) x y
-unfolding blockOf spread
+    → blockOf bw bh (λ (a b : ℤ). spread (viewRead (0 ∷ []) 1 0 1 1) a b dx dy) x y
+    ≡ blockOf bw bh (λ (a b : ℤ). spread (viewRead s w first step count) a b dx dy) x y
 empty-block s w first step count x y dx dy bw bh e =
-    let none : (a b : ℤ) → viewRead s w first step count a b ≡ 0 = λ a b. empty-read s w first step count a b e in
-    tab-ext (bw * bh) _ _ (λ k p. rw (none _ _, none _ _, none _ _, none _ _))
+    let same : (a b : ℤ) → viewRead (0 ∷ []) 1 0 1 1 a b ≡ viewRead s w first step count a b =
+    λ a b. zero-read a b ∙ sym (empty-read s w first step count a b e) in
+    block-ext bw bh _ _ x y (λ a b. spread-cong _ _ a b a b dx dy (same _ _) (same _ _) (same _ _) (same _ _))

@@ -2,7 +2,7 @@
 -- Assumes nothing.
 use mathlib.Core.Path.{_≡_, refl, sym, ap, _∙_}
 use mathlib.Core.Logic.{_⊎_, inl, inr}
-use mathlib.Core.Bool.{true, false, _||_}
+use mathlib.Core.Bool.{true, _||_}
 use mathlib.Core.List.{List}
 use Prim.Native.Nat.{ℕ, _+_, _-_, _≤_, _<_}
 use native.Mathlib.Nat.{zero-add}
@@ -12,7 +12,7 @@ use lib.ListN.{length, take, drop}
 use borrow.Author.Tests.{eqb-true}
 use borrow.Rule.Slice.PartMut.{putMid}
 use Rattle.laws.specs.Tabulate.{tabulate}
-use Rattle.laws.proofs.Filled.{Filled, filled-none, filled-length, filled-part, filled-all}
+use Rattle.laws.proofs.Filled.{Filled, filled-none, filled-length, filled-part, filled-again, filled-all}
 use Rattle.laws.proofs.Parts.{part-length, part-at}
 use Rattle.laws.proofs.Tests.{either}
 use Rattle.forming_predictions.specs.inner.Views.{twoOf, fourOf, Eights, ColumnsFit}
@@ -36,19 +36,28 @@ next-room {f} {d} {o} h p = part-length o 8 16 (still h 16 p)
 pub whole : {f : ℕ → ℕ} {d o : List ℕ} {n : ℕ} → Filled f d n o → length d ≡ n → o ≡ tabulate (length d) f
 whole h e = filled-all h (omega (arith, filled-length h)) refl
 
--- eight columns further
-pub two-next : (row below : List ℕ) (x dx i : ℕ) → twoOf row below (x + 8) dx i ≡ twoOf row below x dx (8 + i)
+-- the last eight of at most sixteen, of which the first eight are in place
+pub overlapped : {f g : ℕ → ℕ} {d o ys : List ℕ} → Filled f d 8 o → length d ≤ 16 → ys ≡ tabulate 8 g
+    → ((i : ℕ) → i < 8 → g i ≡ f (length d - 8 + i))
+    → putMid (length d - 8) (length d - (length d - 8)) o ys ≡ tabulate (length d) f
+overlapped {f} {g} {d} {o} {ys} h p e q =
+    let end : length d - 8 + 8 ≡ length d = omega (arith, h .within) in
+    let last = filled-part 8 (filled-again (length d - 8) h (omega arith)) (omega (arith, filled-length h)) e q in
+    filled-all (rw end at last) (omega (arith, filled-length (rw end at last), filled-length h)) (filled-length h)
+
+-- m columns further
+pub two-next : (row below : List ℕ) (x dx m i : ℕ) → twoOf row below (x + m) dx i ≡ twoOf row below x dx (m + i)
 unfolding twoOf
-two-next row below x dx i =
-    let p : x + 8 + i ≡ x + (8 + i) = omega arith in
-    let q : x + 8 + dx + i ≡ x + dx + (8 + i) = omega arith in
+two-next row below x dx m i =
+    let p : x + m + i ≡ x + (m + i) = omega arith in
+    let q : x + m + dx + i ≡ x + dx + (m + i) = omega arith in
     rw (p, q)
 
-pub four-next : (row below : List ℕ) (x dx i : ℕ) → fourOf row below (x + 8) dx i ≡ fourOf row below x dx (8 + i)
+pub four-next : (row below : List ℕ) (x dx m i : ℕ) → fourOf row below (x + m) dx i ≡ fourOf row below x dx (m + i)
 unfolding fourOf
-four-next row below x dx i =
-    let p : x + 8 + i ≡ x + (8 + i) = omega arith in
-    let q : x + 8 + dx + i ≡ x + dx + (8 + i) = omega arith in
+four-next row below x dx m i =
+    let p : x + m + i ≡ x + (m + i) = omega arith in
+    let q : x + m + dx + i ≡ x + dx + (m + i) = omega arith in
     rw (p, q)
 
 -- what the test of a width says
@@ -62,12 +71,6 @@ eights-of n (inr p) =
 
 pub eights-yes : (n : ℕ) → (eqb n 8 || eqb n 16) ≡ true → Eights n
 eights-yes n e = eights-of n (either (eqb n 8) (eqb n 16) e)
-
-pub eights-no : (n : ℕ) → (eqb n 8 || eqb n 16) ≡ false → n ≡ 16 → ⊥
-eights-no n e h =
-    let f : true ≡ false = rw h at e in
-    let z : _≡_ {A = ℕ} 0 1 = cc in
-    omega arith
 
 -- eight of a block's columns
 pub part-columns : {columns : List ℕ} {w : ℕ} (a : ℕ) → ColumnsFit columns w → a + 8 ≤ length columns → ColumnsFit (take (a + 8 - a) (drop a columns)) w

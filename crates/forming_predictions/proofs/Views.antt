@@ -7,14 +7,14 @@ use Prim.Native.Nat.{ℕ, zero, suc, _+_, _*_, _≤_, _<_}
 use native.Mathlib.Nat.{zero-mul, mul-zero, mul-comm, mul-le-mul, mul-le-mul-right, suc-mul}
 use native.Mathlib.Omega.{arith}
 use lib.Dec.{eqb}
-use lib.IntN.{ℤ, pos, _+ℤ_}
+use lib.IntN.{ℤ, pos, _+ℤ_, +ℤ-assoc}
 use lib.ListN.{length, getD}
 use borrow.Author.Tests.{ne-eqb}
 use mir.Syntax.{w32, w64}
 use mir.Val.{SFits, Fits}
 use Rattle.laws.proofs.Signed.{add-z, sfits-hi, sfits-lo, sfits-z}
 use Rattle.forming_predictions.specs.Lines.{Lines, frame, field, fieldLines, clampTo, rowOf, sampleAt}
-use Rattle.forming_predictions.specs.inner.Views.{lineStart, viewRead, ViewFits, Readable, Reach, RowsFit, ReadsAs, rowsSample}
+use Rattle.forming_predictions.specs.inner.Views.{lineStart, viewRead, ViewFits, Readable, Steps, RowsFit, ReadsAs, rowsSample}
 use Rattle.forming_predictions.specs.declared.FieldParity.the-variants.{Top, Bottom}
 use Rattle.forming_predictions.specs.declared.Rows.{Rows}
 use Rattle.forming_predictions.proofs.Lines.{clamp-is, clamp-lt, top-lines, bottom-lines, frame-row, field-row, empty-field}
@@ -41,14 +41,21 @@ pub place-lt : {s : List ℕ} {w first step count : ℕ} (x y : ℤ) → ViewFit
 place-lt {s} {w} {first} {step} {count} x y f =
     omega (arith, f .room (clampTo count y) (clamp-lt count y (f .lines)), clamp-lt w x (f .some))
 
--- steps from a coordinate
-pub reach-fits : {z : ℤ} {n : ℕ} → Reach z → n ≤ 17 → SFits w32 (z +ℤ pos n)
-reach-fits {z} {n} r h =
+-- fewer steps from a coordinate, and steps from one that is k further
+steps-fit : {z : ℤ} {m n : ℕ} → Steps m z → n ≤ m → SFits w32 (z +ℤ pos n)
+steps-fit {z} {m} {n} r h =
     let a = add-z z (pos n) in
-    let b = add-z z (pos 17) in
+    let b = add-z z (pos m) in
     let c = sfits-lo w32 z (r .here) in
-    let d = sfits-hi w32 (z +ℤ pos 17) (r .last) in
+    let d = sfits-hi w32 (z +ℤ pos m) (r .last) in
     sfits-z w32 (z +ℤ pos n) (omega arith) (omega arith)
+
+pub steps-fewer : {z : ℤ} {m n : ℕ} → Steps m z → n ≤ m → Steps n z
+steps-fewer r h = record { here = r .here; last = steps-fit r h }
+
+pub steps-on : {z : ℤ} {m n : ℕ} (k : ℕ) → Steps m z → k + n ≤ m → Steps n (z +ℤ pos k)
+steps-on {z} {m} {n} k r h =
+    record { here = steps-fit r (omega arith); last = rw (+ℤ-assoc z (pos k) (pos n)) (steps-fit r h) }
 
 -- the rows of a plane that has samples are a view
 pub rows-view : {r : Rows} {s : List ℕ} {w h : ℕ} → RowsFit r h → w ≤ 16384 → h ≤ 16384 → length s ≡ w * h → 0 < length s

@@ -20,7 +20,7 @@ ghost use Rattle.forming_predictions.specs.Forming.{formed, blockOf, pre
 ghost use Rattle.forming_predictions.specs.Refusals.{outsideDomain, planeFits, positionFits, blockSideFits, planeRefusal, sampleRefusal, blockRefusal};
 ghost use Rattle.forming_predictions.specs.SampleAnswers.{sampleNumber, sampleValue, valueUnless, sampleAnswer};
 ghost use Rattle.forming_predictions.specs.BlockAnswers.{blockNumber, blockAnswer};
-ghost use Rattle.forming_predictions.specs.inner.Views.{lineStart, viewRead, spread, twoOf, fourOf, lineCell, pickedOf, picked, columnAt, viewBlock, ViewFits, Readable, BlockFits, Eights, RowFits, Inside, ColumnsFit, FetchFits, RegionFits, insideOf, Reach, RowsFit, ReadsAs, rowsSample, bitOf};
+ghost use Rattle.forming_predictions.specs.inner.Views.{lineStart, viewRead, spread, twoOf, fourOf, lineCell, pickedOf, picked, columnAt, viewBlock, ViewFits, Readable, BlockFits, Eights, RowFits, Inside, ColumnsFit, FetchFits, RegionFits, insideOf, Steps, Reach, RowsFit, ReadsAs, rowsSample, bitOf};
 
 /// Refusal: a plane's length is not width times height, or a side or a position is outside the domain.
 pub const OUTSIDE_DOMAIN: u8 = 14;
@@ -293,7 +293,7 @@ fn line_start(first: usize, step: usize, width: usize, line: usize) -> usize
 
 /// A coordinate, n further.
 fn shifted(position: i32, n: usize) -> i32
-    requires { ⌜ Reach position × (n ≤ 17) ⌝ }
+    requires { ⌜ Steps n position × (n ≤ 17) ⌝ }
     ensures { λ r. ⌜ r ≡ position +ℤ pos n ⌝ }
 {
     position + n as i32
@@ -337,7 +337,7 @@ fn form_sample(
     dy: usize,
 ) -> u8
     requires { ⌜ ViewFits (now samples) width first step count × (dx ≤ 1) × (dy ≤ 1) ⌝ }
-    requires { ⌜ Reach x × Reach y ⌝ }
+    requires { ⌜ Steps 1 x × Steps 1 y ⌝ }
     ensures { λ r. ⌜ r ≡ spread (viewRead (now (samples .entry)) width first step count) x y dx dy ⌝ }
 {
     let right = shifted(x, dx);
@@ -351,17 +351,6 @@ fn form_sample(
 }
 
 // ---- rows of samples
-
-fn copy_samples(from: &[u8], out: &mut [u8])
-    requires { ⌜ length (now out) ≡ length (now from) ⌝ }
-    ensures { λ r. ⌜ now (out .exit) ≡ now (from .entry) ⌝ }
-{
-    let mut k: usize = 0;
-    while k < out.len() {
-        out[k] = from[k];
-        k += 1;
-    }
-}
 
 /// Averaging refuses differing lengths only, and these are equal.
 fn mean2_samples(a: &[u8], b: &[u8], out: &mut [u8])
@@ -733,13 +722,9 @@ fn form_eights(
     block_height: usize,
     out: &mut [u8],
 )
-    requires { ⌜ Readable (now samples) width first step count × Reach x × Reach y × BlockFits dx dy «block_width» «block_height» (now out) × Eights «block_width» ⌝ }
+    requires { ⌜ ViewFits (now samples) width first step count × Reach x × Reach y × BlockFits dx dy «block_width» «block_height» (now out) × Eights «block_width» ⌝ }
     ensures { λ r. ⌜ now (out .exit) ≡ viewBlock (now (samples .entry)) width first step count x y dx dy «block_width» «block_height» ⌝ }
 {
-    if samples.len() == 0 {
-        clear(out);
-        return;
-    }
     if block_width == 8 {
         let mut columns = [0usize; 9];
         clamp_columns(width, x, &mut columns);
@@ -781,21 +766,250 @@ fn form_eights(
     );
 }
 
-/// The left columns of the upper rows of a block of 16 × 16.
-fn crop(wide: &[u8], width: usize, height: usize, out: &mut [u8])
-    requires { ⌜ (length (now wide) ≡ 256) × (0 < width) × (width ≤ 16) × (height ≤ 16) × (length (now out) ≡ width * height) ⌝ }
-    ensures { λ r. ⌜ now (out .exit) ≡ tabulate (width * height) (λ (k : ℕ). getD (now (wide .entry)) (k / width * 16 + k % width) 0) ⌝ }
+/// Whether n places from `position` on lie below the limit.
+fn is_inside(position: i32, n: usize, limit: usize) -> bool
+    requires { ⌜ n ≤ 17 ⌝ }
+    ensures { λ r. ⌜ r ≡ insideOf position n limit ⌝ }
+{
+    if position < 0 {
+        return false;
+    }
+    position as usize + n <= limit
+}
+
+// ---- blocks of other widths than 8 and 16
+
+/// A row of fewer than eight.
+fn short_row(row: &[u8], below: &[u8], x: usize, dx: usize, out: &mut [u8])
+    requires { ⌜ RowFits (now row) (now below) x dx (length (now out)) ⌝ }
+    ensures { λ r. ⌜ now (out .exit) ≡ tabulate (length (now (out .entry))) (fourOf (now (row .entry)) (now (below .entry)) x dx) ⌝ }
+{
+    let n = out.len();
+    let right = x + dx;
+    let e = x + n;
+    let f = right + n;
+    mean4_samples(
+        &row[x..e],
+        &row[right..f],
+        &below[x..e],
+        &below[right..f],
+        out,
+    );
+}
+
+/// A row of any width: the first eight and the last eight, which overlap. The compiler knows that a short one is short, and unrolls it.
+fn any_row(row: &[u8], below: &[u8], x: usize, dx: usize, out: &mut [u8])
+    requires { ⌜ RowFits (now row) (now below) x dx (length (now out)) × (length (now out) ≤ 16) ⌝ }
+    ensures { λ r. ⌜ now (out .exit) ≡ tabulate (length (now (out .entry))) (fourOf (now (row .entry)) (now (below .entry)) x dx) ⌝ }
+{
+    let n = out.len();
+    if n < 8 {
+        short_row(row, below, x, dx, out);
+        return;
+    }
+    let m = n - 8;
+    four_eight(row, below, x, dx, &mut out[0..8]);
+    four_eight(row, below, x + m, dx, &mut out[m..n]);
+}
+
+/// A row of a block from line y on, of any width.
+fn any_line(
+    samples: &[u8],
+    width: usize,
+    first: usize,
+    step: usize,
+    count: usize,
+    x: usize,
+    y: usize,
+    dx: usize,
+    dy: usize,
+    out: &mut [u8],
+)
+    requires { ⌜ ViewFits (now samples) width first step count × Inside width count x y dx dy (length (now out)) 1 × (dx ≤ 1) × (dy ≤ 1) × (length (now out) ≤ 16) ⌝ }
+    ensures { λ r. ⌜ now (out .exit) ≡ tabulate (length (now (out .entry))) (lineCell (now (samples .entry)) width first step count (pos x) (pos y) dx dy) ⌝ }
+{
+    let a = line_start(first, step, width, y);
+    let b = line_start(first, step, width, y + dy);
+    let e = a + width;
+    let f = b + width;
+    any_row(&samples[a..e], &samples[b..f], x, dx, out);
+}
+
+/// A block of any width whose reads all lie inside.
+fn form_any(
+    samples: &[u8],
+    width: usize,
+    first: usize,
+    step: usize,
+    count: usize,
+    x: usize,
+    y: usize,
+    dx: usize,
+    dy: usize,
+    block_width: usize,
+    height: usize,
+    out: &mut [u8],
+)
+    requires { ⌜ ViewFits (now samples) width first step count × BlockFits dx dy «block_width» height (now out) × Inside width count x y dx dy «block_width» height ⌝ }
+    ensures { λ r. ⌜ now (out .exit) ≡ viewBlock (now (samples .entry)) width first step count (pos x) (pos y) dx dy «block_width» height ⌝ }
 {
     let mut r: usize = 0;
     while r < height {
-        let a = r * 16;
-        let b = a + width;
-        let o = r * width;
-        let e = o + width;
-        copy_samples(&wide[a..b], &mut out[o..e]);
+        let o = r * block_width;
+        let e = o + block_width;
+        any_line(
+            samples,
+            width,
+            first,
+            step,
+            count,
+            x,
+            y + r,
+            dx,
+            dy,
+            &mut out[o..e],
+        );
         r += 1;
     }
 }
+
+/// A predicted sample; where it is no mean, one sample is read.
+fn clamped_sample(
+    samples: &[u8],
+    width: usize,
+    first: usize,
+    step: usize,
+    count: usize,
+    x: i32,
+    y: i32,
+    dx: usize,
+    dy: usize,
+) -> u8
+    requires { ⌜ ViewFits (now samples) width first step count × (dx ≤ 1) × (dy ≤ 1) ⌝ }
+    requires { ⌜ Steps 1 x × Steps 1 y ⌝ }
+    ensures { λ r. ⌜ r ≡ spread (viewRead (now (samples .entry)) width first step count) x y dx dy ⌝ }
+{
+    if dx + dy == 0 {
+        return sample_at(samples, width, first, step, count, x, y);
+    }
+    form_sample(samples, width, first, step, count, x, y, dx, dy)
+}
+
+/// A row of a block, sample by sample.
+fn clamped_line(
+    samples: &[u8],
+    width: usize,
+    first: usize,
+    step: usize,
+    count: usize,
+    x: i32,
+    y: i32,
+    dx: usize,
+    dy: usize,
+    out: &mut [u8],
+)
+    requires { ⌜ ViewFits (now samples) width first step count × Reach x × Steps 1 y × (dx ≤ 1) × (dy ≤ 1) × (length (now out) ≤ 16) ⌝ }
+    ensures { λ r. ⌜ now (out .exit) ≡ tabulate (length (now (out .entry))) (lineCell (now (samples .entry)) width first step count x y dx dy) ⌝ }
+{
+    let mut k: usize = 0;
+    while k < out.len() {
+        out[k] = clamped_sample(samples, width, first, step, count, shifted(x, k), y, dx, dy);
+        k += 1;
+    }
+}
+
+/// A block of any width that reaches past an edge. A small one is formed before the columns of a larger one are clamped.
+fn clamped_lines(
+    samples: &[u8],
+    width: usize,
+    first: usize,
+    step: usize,
+    count: usize,
+    x: i32,
+    y: i32,
+    dx: usize,
+    dy: usize,
+    block_width: usize,
+    height: usize,
+    out: &mut [u8],
+)
+    requires { ⌜ ViewFits (now samples) width first step count × Reach x × Reach y × BlockFits dx dy «block_width» height (now out) ⌝ }
+    ensures { λ r. ⌜ now (out .exit) ≡ viewBlock (now (samples .entry)) width first step count x y dx dy «block_width» height ⌝ }
+{
+    let mut r: usize = 0;
+    while r < height {
+        let o = r * block_width;
+        let e = o + block_width;
+        clamped_line(
+            samples,
+            width,
+            first,
+            step,
+            count,
+            x,
+            shifted(y, r),
+            dx,
+            dy,
+            &mut out[o..e],
+        );
+        r += 1;
+    }
+}
+
+/// A block of any width.
+fn form_other(
+    samples: &[u8],
+    width: usize,
+    first: usize,
+    step: usize,
+    count: usize,
+    x: i32,
+    y: i32,
+    dx: usize,
+    dy: usize,
+    block_width: usize,
+    block_height: usize,
+    out: &mut [u8],
+)
+    requires { ⌜ ViewFits (now samples) width first step count × Reach x × Reach y × BlockFits dx dy «block_width» «block_height» (now out) ⌝ }
+    ensures { λ r. ⌜ now (out .exit) ≡ viewBlock (now (samples .entry)) width first step count x y dx dy «block_width» «block_height» ⌝ }
+{
+    let columns = is_inside(x, dx + block_width, width);
+    let lines = is_inside(y, dy + block_height, count);
+    if columns & lines {
+        form_any(
+            samples,
+            width,
+            first,
+            step,
+            count,
+            x as usize,
+            y as usize,
+            dx,
+            dy,
+            block_width,
+            block_height,
+            out,
+        );
+        return;
+    }
+    clamped_lines(
+        samples,
+        width,
+        first,
+        step,
+        count,
+        x,
+        y,
+        dx,
+        dy,
+        block_width,
+        block_height,
+        out,
+    );
+}
+
+// ---- blocks
 
 /// Whether rows of n samples are formed eight by eight.
 fn by_eights(n: usize) -> bool
@@ -804,8 +1018,8 @@ fn by_eights(n: usize) -> bool
     (n == 8) | (n == 16)
 }
 
-/// A block that reaches past an edge, or whose width is neither 8 nor 16: that one is cut out of a block of 16 × 16. As this function calls
-/// itself, it is not inlined, and blocks inside don't pay for its arrays.
+/// A block that reaches past an edge, or whose width is neither 8 nor 16. A view without samples reads as one of a single 0. As this
+/// function calls itself, it is not inlined, and blocks inside don't pay for its arrays.
 fn form_clamped(
     samples: &[u8],
     width: usize,
@@ -823,6 +1037,24 @@ fn form_clamped(
     requires { ⌜ Readable (now samples) width first step count × Reach x × Reach y × BlockFits dx dy «block_width» «block_height» (now out) ⌝ }
     ensures { λ r. ⌜ now (out .exit) ≡ viewBlock (now (samples .entry)) width first step count x y dx dy «block_width» «block_height» ⌝ }
 {
+    if samples.len() == 0 {
+        let zero = [0u8; 1];
+        form_clamped(
+            &zero,
+            1,
+            0,
+            1,
+            1,
+            x,
+            y,
+            dx,
+            dy,
+            block_width,
+            block_height,
+            out,
+        );
+        return;
+    }
     if by_eights(block_width) {
         form_eights(
             samples,
@@ -840,8 +1072,7 @@ fn form_clamped(
         );
         return;
     }
-    let mut wide = [0u8; 256];
-    form_clamped(
+    form_other(
         samples,
         width,
         first,
@@ -851,22 +1082,10 @@ fn form_clamped(
         y,
         dx,
         dy,
-        16,
-        16,
-        &mut wide,
+        block_width,
+        block_height,
+        out,
     );
-    crop(&wide, block_width, block_height, out);
-}
-
-/// Whether n places from `position` on lie below the limit.
-fn is_inside(position: i32, n: usize, limit: usize) -> bool
-    requires { ⌜ n ≤ 17 ⌝ }
-    ensures { λ r. ⌜ r ≡ insideOf position n limit ⌝ }
-{
-    if position < 0 {
-        return false;
-    }
-    position as usize + n <= limit
 }
 
 /// A block of a view, from (x, y) on. Nothing lies inside a view without samples.
@@ -919,17 +1138,6 @@ fn form(
         block_height,
         out,
     );
-}
-
-/// An empty plane's block.
-fn clear(out: &mut [u8])
-    ensures { λ r. ⌜ now (out .exit) ≡ tabulate (length (now (out .entry))) (λ (k : ℕ). 0) ⌝ }
-{
-    let mut k: usize = 0;
-    while k < out.len() {
-        out[k] = 0;
-        k += 1;
-    }
 }
 
 // ---- vectors, and the rows that are read

@@ -1,6 +1,6 @@
 -- The invariant of a loop that writes `tabulate n f` into a buffer from its front.
 -- Assumes nothing.
-use mathlib.Core.Path.{_≡_, refl, ap, _∙_}
+use mathlib.Core.Path.{_≡_, refl, sym, ap, _∙_}
 use mathlib.Core.List.{List, [], _∷_, _++_, append-assoc, append-nil}
 use Prim.Native.Nat.{ℕ, zero, suc, _+_, _-_, _≤_, _<_}
 use native.Mathlib.Nat.{not-suc-le-zero, le-of-suc-le-suc}
@@ -64,6 +64,20 @@ filled-part {f} {g} {d} {n} {o} {ys} m h l e p =
             ← append-assoc (tabulate n f) (tabulate m (λ (i : ℕ). f (n + i))) (drop (n + m) d),
             tab-append n m f,
           );
+    }
+
+-- a buffer is filled as far as before of itself too, so that a part may be written again
+pub filled-again : {f : ℕ → ℕ} {d : List ℕ} {n : ℕ} {o : List ℕ} (m : ℕ) → Filled f d n o → m ≤ n → Filled f o m o
+filled-again {f} {d} {n} {o} m h l =
+    let all : m + (n - m) ≡ n = omega arith in
+    let more = tabulate (n - m) (λ (k : ℕ). f (m + k)) in
+    let front : tabulate m f ++ more ≡ tabulate n f = tab-append m (n - m) f ∙ ap (λ (k : ℕ). tabulate k f) all in
+    let e : o ≡ tabulate m f ++ (more ++ drop n d) =
+    h .is ∙ ap (λ (t : List ℕ). t ++ drop n d) (sym front) ∙ append-assoc (tabulate m f) more (drop n d) in
+    let rest : drop m o ≡ more ++ drop n d = ap (drop m) e ∙ drop-at (tabulate m f) (more ++ drop n d) m (length-tab m f) in
+    record {
+      within = omega (arith, filled-length h, h .within);
+      is = e ∙ ap (λ (t : List ℕ). tabulate m f ++ t) (sym rest);
     }
 
 -- where the loop has ended: the whole buffer, of m elements, is the tabulated list

@@ -6,5 +6,6 @@ pub mod Bounded
 pub mod Bits
 pub mod Tabulated
 pub mod Filled
+pub mod Rows
 pub mod Parts
 pub mod Related

@@ -12,6 +12,7 @@ use mir.Val.{toZ}
 use mir.Facts.{toZ-ofZ}
 use Rattle.laws.proofs.Bits.{back}
 use Rattle.forming_predictions.specs.inner.Views.{columnAt}
+use Rattle.forming_predictions.proofs.Views.{steps-fewer}
 use Rattle.forming_predictions.proofs.clamp_columns.Statement.{statement}
 use Rattle.forming_predictions.proofs.clamp_columns.Tie as tie
 
@@ -27,7 +28,8 @@ loop-holds c = filled-none _ _
 shifted-requires : tie.Need-shifted-requires Inv-loop μ-loop
 shifted-requires c κs =
     let s = c .before .before .before in
-    (rw (toZ-ofZ (s .fits .x)) (s .pre .0), omega (arith, c .loop-test .taken, filled-length (c .before .loop .inv), s .pre .1))
+    let few = filled-length (c .before .loop .inv) in
+    (rw (toZ-ofZ (s .fits .x)) (steps-fewer (s .pre .0) (omega (arith, c .loop-test .taken, s .pre .1))), omega (arith, c .loop-test .taken, s .pre .1))
 
 clamp-to-requires : tie.Need-clamp-to-requires Inv-loop μ-loop
 clamp-to-requires c κs = search needs

@@ -10,7 +10,7 @@ use mir.Val.{toZ, ofZ}
 use Rattle.laws.proofs.Bits.{back}
 use Rattle.forming_predictions.specs.Splitting.{floorHalf}
 use Rattle.forming_predictions.proofs.Refusals.{SampleRight, sample-right}
-use Rattle.forming_predictions.proofs.Views.{sides-some, rows-view}
+use Rattle.forming_predictions.proofs.Views.{sides-some, rows-view, steps-fewer}
 use Rattle.forming_predictions.proofs.Forming.{view-formed, empty-formed}
 use borrow.Author.Needs.{needs}
 use Rattle.forming_predictions.proofs.form_rows_sample.Statement.{statement}
@@ -61,7 +61,7 @@ form-sample-requires c κs =
     let s = start e in
     let p = right s .plane in (
       (rows-view (s .pre .0) (p .wide) (p .high) (p .count) (omega (arith, e .if1 .left)), c .before .half-step .ensures .1, c .half-step2 .ensures .1),
-      (rw (back w32 (m2 .before .moved .result) (m2 .before .moved .ok)) (m2 .before .moved .ensures .1), rw (back w32 (m2 .moved2 .result) (m2 .moved2 .ok)) (m2 .moved2 .ensures .1)),
+      (rw (back w32 (m2 .before .moved .result) (m2 .before .moved .ok)) (steps-fewer (m2 .before .moved .ensures .1) (omega arith)), rw (back w32 (m2 .moved2 .result) (m2 .moved2 .ok)) (steps-fewer (m2 .moved2 .ensures .1) (omega arith))),
     )
 
 returns-2 : tie.Need-returns-2

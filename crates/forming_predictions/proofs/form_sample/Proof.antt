@@ -5,15 +5,16 @@ use mir.Syntax.{w32}
 use mir.Facts.{toZ-ofZ}
 use Rattle.laws.proofs.Bits.{back}
 use Rattle.forming_predictions.specs.inner.Views.{spread}
+use Rattle.forming_predictions.proofs.Views.{steps-fewer}
 use borrow.Author.Needs.{needs}
 use Rattle.forming_predictions.proofs.form_sample.Statement.{statement}
 use Rattle.forming_predictions.proofs.form_sample.Tie as tie
 
 shifted-requires : tie.Need-shifted-requires
-shifted-requires c κs = search needs
+shifted-requires c κs = let s = c .before in (rw (toZ-ofZ (s .fits .x)) (steps-fewer (s .pre .1 .0) (s .pre .0 .1)), search needs)
 
 shifted-requires-2 : tie.Need-shifted-requires-2
-shifted-requires-2 c κs = search needs
+shifted-requires-2 c κs = let s = c .before .before in (rw (toZ-ofZ (s .fits .y)) (steps-fewer (s .pre .1 .1) (s .pre .0 .2)), search needs)
 
 sample-at-requires : tie.Need-sample-at-requires
 sample-at-requires c κs = search needs

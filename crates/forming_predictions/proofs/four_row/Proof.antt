@@ -70,7 +70,7 @@ returns-2 c =
     let u = c .before .before in
     let e = u .before .before in
     let a = start (early e) .args in
-    whole (sixteen (first (early e)) (omega (arith, more e)) (u .four-eight2 .ensures) (λ i h. four-next (a .row .now) (a .below .now) (a .x) (a .dx) i)) (more e)
+    whole (sixteen (first (early e)) (omega (arith, more e)) (u .four-eight2 .ensures) (λ i h. four-next (a .row .now) (a .below .now) (a .x) (a .dx) 8 i)) (more e)
 
 pub four-row-spec : {M : Type 1} → statement M
 four-row-spec =

@@ -3,7 +3,6 @@
 use native.Mathlib.Omega.{arith}
 use mir.Syntax.{w32}
 use mir.Facts.{toZ-ofZ, toZ-pos}
-use Rattle.forming_predictions.proofs.Views.{reach-fits}
 use borrow.Author.Needs.{needs}
 use Rattle.forming_predictions.proofs.shifted.Statement.{statement}
 use Rattle.forming_predictions.proofs.shifted.Tie as tie
@@ -12,10 +11,10 @@ cast-result : tie.Need-cast-result
 cast-result c = search needs
 
 add-result : tie.Need-add-result
-add-result c = rw (toZ-ofZ (c .fits .position), toZ-pos w32 {n = c .args .n} (omega (arith, c .pre))) (reach-fits (c .pre .0) (c .pre .1))
+add-result c = rw (toZ-ofZ (c .fits .position), toZ-pos w32 {n = c .args .n} (omega (arith, c .pre))) (c .pre .0 .last)
 
 returns : tie.Need-returns
-returns c = rw (toZ-ofZ (c .fits .position), toZ-pos w32 {n = c .args .n} (omega (arith, c .pre)), toZ-ofZ (reach-fits (c .pre .0) (c .pre .1)))
+returns c = rw (toZ-ofZ (c .fits .position), toZ-pos w32 {n = c .args .n} (omega (arith, c .pre)), toZ-ofZ (c .pre .0 .last))
 
 pub shifted-spec : {M : Type 1} → statement M
 shifted-spec = tie.close (tie.spec cast-result add-result returns)

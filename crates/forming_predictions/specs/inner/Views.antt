@@ -127,10 +127,14 @@ pub record RegionFits (columns region : List ℕ) (dx dy bw bh : ℕ) : Type 0 w
   pub columns-count : length columns ≡ bw + dx
   pub region-count : length region ≡ (bw + dx) * (bh + dy)
 
--- a coordinate from which 17 steps can be made
-pub record Reach (z : ℤ) : Type 0 where
+-- a coordinate from which n steps can be made
+pub record Steps (n : ℕ) (z : ℤ) : Type 0 where
   pub here : SFits w32 z
-  pub last : SFits w32 (z +ℤ pos 17)
+  pub last : SFits w32 (z +ℤ pos n)
+
+-- as many as a block asks for
+abbrev pub Reach : ℤ → Type 0
+Reach z = Steps 17 z
 
 -- the rows of a plane of h rows: none is outside it
 pub record RowsFit (r : Rows) (h : ℕ) : Type 0 where
