@@ -4,8 +4,7 @@ use mathlib.Core.Path.{_≡_, refl, sym, ap, _∙_}
 use mathlib.Core.Bool.{true, false}
 use mathlib.Core.List.{List, [], _∷_}
 use Prim.Native.Nat.{ℕ, zero, suc, _+_, _-_, _*_, _/_, _%_, _≤_, _<_}
-use native.Mathlib.Nat.{zero-add, one-mul, mul-comm, mul-le-mul, mul-le-mul-right, suc-mul, mod-lt, div-lt-iff-lt-mul}
-use native.Mathlib.Numerals.{add-one}
+use native.Mathlib.Nat.{zero-add, one-mul, mul-comm, mul-le-mul, mod-lt, div-lt-iff-lt-mul}
 use native.Mathlib.Omega.{arith}
 use lib.Arith.{digits-lt, digits-div, digits-mod}
 use lib.Dec.{leb}
@@ -16,7 +15,7 @@ use borrow.Author.Tests.{leb-true}
 use Rattle.laws.specs.Tabulate.{tabulate}
 use Rattle.laws.proofs.Signed.{zp, zn, eq-z, add-z}
 use Rattle.laws.proofs.Rows.{row-in}
-use Rattle.laws.proofs.Tabulated.{tab-ext, length-tab, getD-tab, tab-append, tab-self}
+use Rattle.laws.proofs.Tabulated.{tab-ext, length-tab, getD-tab, tab-append}
 use Rattle.laws.proofs.Parts.{part-length, part-at}
 use Rattle.forming_predictions.specs.Lines.{clampTo}
 use Rattle.forming_predictions.specs.Forming.{blockOf}

@@ -49,24 +49,6 @@ whole c =
     ap (λ (m : ℕ). orElse m (length-cause c)) (domain c)
     ∙ block-cause (a .plane .width) (a .plane .height) (a .length) (a .x) (a .y) (a .size .width) (a .size .height) (a .room)
 
-block-side-fits-requires : tie.Need-block-side-fits-requires
-block-side-fits-requires c κs = search needs
-
-block-side-fits-requires-2 : tie.Need-block-side-fits-requires-2
-block-side-fits-requires-2 c κs = search needs
-
-position-fits-requires : tie.Need-position-fits-requires
-position-fits-requires c κs = search needs
-
-position-fits-requires-2 : tie.Need-position-fits-requires-2
-position-fits-requires-2 c κs = search needs
-
-plane-fits-requires : tie.Need-plane-fits-requires
-plane-fits-requires c κs = search needs
-
-domain-refusal-requires : tie.Need-domain-refusal-requires
-domain-refusal-requires c κs = search needs
-
 returns : tie.Need-returns
 returns c = let d = c .before in first-cause (d .domain-refusal .result) (length-cause d) (c .if1 .taken) ∙ whole d
 
@@ -96,12 +78,12 @@ pub block-refusal-spec : {M : Type 1} → statement M
 block-refusal-spec =
     tie.close
     (tie.spec
-    block-side-fits-requires
-    block-side-fits-requires-2
-    position-fits-requires
-    position-fits-requires-2
-    plane-fits-requires
-    domain-refusal-requires
+    (λ c κs. search needs)
+    (λ c κs. search needs)
+    (λ c κs. search needs)
+    (λ c κs. search needs)
+    (λ c κs. search needs)
+    (λ c κs. search needs)
     returns
     mul-if2
     returns-2

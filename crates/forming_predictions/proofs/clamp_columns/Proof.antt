@@ -31,19 +31,10 @@ shifted-requires c κs =
     let few = filled-length (c .before .loop .inv) in
     (rw (toZ-ofZ (s .fits .x)) (steps-fewer (s .pre .0) (omega (arith, c .loop-test .taken, s .pre .1))), omega (arith, c .loop-test .taken, s .pre .1))
 
-clamp-to-requires : tie.Need-clamp-to-requires Inv-loop μ-loop
-clamp-to-requires c κs = search needs
-
 mul-columns : tie.Need-mul-columns Inv-loop μ-loop
 mul-columns c =
     let i = c .before .before in
     omega (arith, i .loop-test .taken, filled-length (i .before .loop .inv), i .before .before .before .pre .1)
-
-slice-write-columns : tie.Need-slice-write-columns Inv-loop μ-loop
-slice-write-columns c = search needs
-
-add-k : tie.Need-add-k Inv-loop μ-loop
-add-k c = search needs
 
 loop-less : tie.Need-loop-less Inv-loop μ-loop
 loop-less c = omega (arith, filled-length (c .before .before .before .loop .inv))
@@ -69,10 +60,10 @@ clamp-columns-spec =
     μ-loop
     loop-holds
     shifted-requires
-    clamp-to-requires
+    (λ c κs. search needs)
     mul-columns
-    slice-write-columns
-    add-k
+    (λ c. search needs)
+    (λ c. search needs)
     loop-less
     loop-again
     same-length

@@ -24,9 +24,6 @@ returns-2 c =
 returns-3 : tie.Need-returns-3
 returns-3 c = omega (arith, clamp-is (c .before .before .before .args .n) (c .before .before .before .args .v))
 
-sub-result : tie.Need-sub-result
-sub-result c = search needs
-
 returns-4 : tie.Need-returns-4
 returns-4 c =
     let s = c .before .before .before in
@@ -34,4 +31,4 @@ returns-4 c =
     omega (arith, clamp-is (s .args .n) (s .args .v), cast-val (s .fits .v) e)
 
 pub clamp-to-spec : {M : Type 1} → statement M
-clamp-to-spec = tie.close (tie.spec returns cast-u returns-2 returns-3 sub-result returns-4)
+clamp-to-spec = tie.close (tie.spec returns cast-u returns-2 returns-3 (λ c. search needs) returns-4)

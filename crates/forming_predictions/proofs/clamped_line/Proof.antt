@@ -31,6 +31,9 @@ at : (c : tie.After-shifted Inv-loop μ-loop)
     → toZ w32 (ofZ w32 (c .shifted .result)) ≡ toZ w32 (ofZ w32 (c .before .before .before .before .before .args .x)) +ℤ pos (c .before .before .loop .k)
 at c = back w32 (c .shifted .result) (c .shifted .ok) ∙ c .shifted .ensures
 
+loop-holds : tie.Need-loop-holds Inv-loop μ-loop
+loop-holds c = filled-none _ _
+
 shifted-requires : tie.Need-shifted-requires Inv-loop μ-loop
 shifted-requires c κs =
     let s = c .before .before .before .before in
@@ -47,11 +50,17 @@ clamped-sample-requires c κs =
       (rw (at c, toZ-ofZ (s .fits .x)) (steps-on (i .before .loop .k) (p .1) (omega arith)), rw (toZ-ofZ (s .fits .y)) (p .2)),
     )
 
+loop-less : tie.Need-loop-less Inv-loop μ-loop
+loop-less c = omega (arith, filled-length (c .before .before .before .loop .inv))
+
 loop-again : tie.Need-loop-again Inv-loop μ-loop
 unfolding lineCell
 loop-again c =
     let d = c .before in
     filled-step (d .before .before .loop .inv) (search needs) (rw (at d) at (c .clamped-sample .ensures))
+
+same-length : tie.Need-same-length Inv-loop μ-loop
+same-length c = filled-length (c .before .loop .inv)
 
 returns : tie.Need-returns Inv-loop μ-loop
 returns c =
@@ -64,12 +73,12 @@ clamped-line-spec =
     (tie.spec
     Inv-loop
     μ-loop
-    (λ c. filled-none _ _)
+    loop-holds
     shifted-requires
     clamped-sample-requires
     (λ c. search needs)
     (λ c. search needs)
-    (λ c. omega (arith, filled-length (c .before .before .before .loop .inv)))
+    loop-less
     loop-again
-    (λ c. filled-length (c .before .loop .inv))
+    same-length
     returns)

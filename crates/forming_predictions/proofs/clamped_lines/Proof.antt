@@ -1,7 +1,7 @@
 -- `clamped_lines` meets its contract: after r turns the first r rows are in place.
 -- Assumes nothing.
 use mathlib.Core.Path.{_≡_, _∙_}
-use Prim.Native.Nat.{ℕ, _+_, _-_, _*_, _/_, _%_, _≤_, _<_}
+use Prim.Native.Nat.{ℕ, _+_, _-_, _*_, _/_, _%_, _≤_}
 use native.Mathlib.Omega.{arith}
 use lib.IntN.{ℤ, pos, _+ℤ_}
 use lib.ListN.{length}
@@ -38,11 +38,23 @@ at : (c : tie.After-shifted Inv-loop μ-loop)
     → toZ w32 (ofZ w32 (c .shifted .result)) ≡ toZ w32 (ofZ w32 (start (c .before .before) .args .y)) +ℤ pos (c .before .before .loop .r)
 at c = back w32 (c .shifted .result) (c .shifted .ok) ∙ c .shifted .ensures
 
+loop-holds : tie.Need-loop-holds Inv-loop μ-loop
+loop-holds c = rows-none _ _ _ _ (c .before .before .pre .3 .count)
+
+mul-o : tie.Need-mul-o Inv-loop μ-loop
+mul-o c = omega (arith, room c, rows-length (c .before .loop .inv), start (c .before) .good)
+
+add-e : tie.Need-add-e Inv-loop μ-loop
+add-e c = omega (arith, room c, rows-length (c .before .loop .inv), start (c .before) .good)
+
 shifted-requires : tie.Need-shifted-requires Inv-loop μ-loop
 shifted-requires c κs =
     let s = start (c .before) in
     let few = s .pre .3 .high in
     (rw (toZ-ofZ (s .fits .y)) (steps-fewer (s .pre .2) (omega (arith, c .loop-test .taken))), omega (arith, c .loop-test .taken))
+
+part-clamped-line-end : tie.Need-part-clamped-line-end Inv-loop μ-loop
+part-clamped-line-end c = room (c .before)
 
 clamped-line-requires : tie.Need-clamped-line-requires Inv-loop μ-loop
 clamped-line-requires c κs =
@@ -70,6 +82,9 @@ loop-again c =
     rows-step (l .loop .inv) (i .loop-test .taken) (rw (at h) at (f .clamped-line .ensures))
     (λ k q. row-of-block (λ (x y : ℤ). spread (viewRead (a .samples .now) (a .width) (a .first) (a .step) (a .count)) x y (a .dx) (a .dy)) (toZ w32 (ofZ w32 (a .x))) (toZ w32 (ofZ w32 (a .y))) (a .block-width) (l .loop .r) k q)
 
+same-length : tie.Need-same-length Inv-loop μ-loop
+same-length c = rows-length (c .before .loop .inv)
+
 returns : tie.Need-returns Inv-loop μ-loop
 unfolding blockOf
 returns c =
@@ -82,16 +97,16 @@ clamped-lines-spec =
     (tie.spec
     Inv-loop
     μ-loop
-    (λ c. rows-none _ _ _ _ (c .before .before .pre .3 .count))
-    (λ c. omega (arith, room c, rows-length (c .before .loop .inv), start (c .before) .good))
-    (λ c. omega (arith, room c, rows-length (c .before .loop .inv), start (c .before) .good))
+    loop-holds
+    mul-o
+    add-e
     shifted-requires
     (λ c. omega arith)
     (λ c. omega arith)
-    (λ c. room (c .before))
+    part-clamped-line-end
     clamped-line-requires
-    (λ c. omega (arith, c .before .before .before .before .before .loop-test .taken, start (c .before .before .before .before .before .before) .pre .3 .high))
-    (λ c. omega (arith, c .before .before .before .before .before .loop-test .taken))
+    (λ c. search needs)
+    (λ c. search needs)
     loop-again
-    (λ c. rows-length (c .before .loop .inv))
+    same-length
     returns)

@@ -24,9 +24,6 @@ begin c = let a = c .before .before .before .before .before .args in c .line-sta
 room : (c : tie.After-line-start) → c .line-start .result + c .before .before .before .before .before .args .width ≤ length (c .before .before .before .before .before .args .samples .now)
 room c = let s = c .before .before .before .before .before in fetch-room (s .pre .0) (s .pre .1) (s .args .y) (begin c)
 
-clamp-to-requires : tie.Need-clamp-to-requires
-clamp-to-requires c κs = search needs
-
 line-start-requires : tie.Need-line-start-requires
 line-start-requires c κs =
     let s = c .before .before .before .before in
@@ -36,12 +33,6 @@ line-start-requires c κs =
 add-e : tie.Need-add-e
 add-e c = omega (arith, room c, c .before .before .before .before .before .good)
 
-sub-pick-columns : tie.Need-sub-pick-columns
-sub-pick-columns c = search needs
-
-part-pick-columns-start : tie.Need-part-pick-columns-start
-part-pick-columns-start c = search needs
-
 part-pick-columns-end : tie.Need-part-pick-columns-end
 part-pick-columns-end c = room c
 
@@ -50,9 +41,6 @@ pick-columns-requires c κs =
     let l = c .before .before in
     let s = l .before .before .before .before .before in
     (fetch-columns (s .pre .0) (s .pre .1) (s .args .y) (begin l), s .pre .2)
-
-same-length : tie.Need-same-length
-same-length c = search needs
 
 returns : tie.Need-returns
 returns c =
@@ -65,12 +53,12 @@ pub fetch-line-spec : {M : Type 1} → statement M
 fetch-line-spec =
     tie.close
     (tie.spec
-    clamp-to-requires
+    (λ c κs. search needs)
     line-start-requires
     add-e
-    sub-pick-columns
-    part-pick-columns-start
+    (λ c. search needs)
+    (λ c. search needs)
     part-pick-columns-end
     pick-columns-requires
-    same-length
+    (λ c. search needs)
     returns)

@@ -13,6 +13,7 @@ use Rattle.laws.proofs.Bits.{back}
 use Rattle.laws.proofs.Rows.{RowsFilled, rows-none, rows-length, rows-room, rows-part, rows-step, rows-all}
 use Rattle.forming_predictions.specs.inner.Views.{picked}
 use Rattle.forming_predictions.proofs.Views.{steps-fewer}
+use borrow.Author.Needs.{needs}
 use Rattle.forming_predictions.proofs.fetch_lines.Statement.{statement}
 use Rattle.forming_predictions.proofs.fetch_lines.Tie as tie
 
@@ -31,11 +32,23 @@ room : (c : tie.In-loop Inv-loop μ-loop)
     → (let n = length (start (c .before) .args .columns .now) in c .before .loop .r * n + n ≤ length (c .before .loop .out))
 room c = rows-room (c .before .loop .inv) (c .loop-test .taken)
 
+loop-holds : tie.Need-loop-holds Inv-loop μ-loop
+loop-holds c = rows-none _ _ _ _ (c .before .before .before .pre .4)
+
+mul-o : tie.Need-mul-o Inv-loop μ-loop
+mul-o c = omega (arith, room c, rows-length (c .before .loop .inv), start (c .before) .good)
+
+add-e : tie.Need-add-e Inv-loop μ-loop
+add-e c = omega (arith, room c, rows-length (c .before .loop .inv), start (c .before) .good)
+
 shifted-requires : tie.Need-shifted-requires Inv-loop μ-loop
 shifted-requires c κs =
     let s = start (c .before) in
     let few = s .pre .3 in
     (rw (toZ-ofZ (s .fits .y)) (steps-fewer (s .pre .2) (omega (arith, c .loop-test .taken))), omega (arith, c .loop-test .taken))
+
+part-fetch-line-end : tie.Need-part-fetch-line-end Inv-loop μ-loop
+part-fetch-line-end c = room (c .before)
 
 fetch-line-requires : tie.Need-fetch-line-requires Inv-loop μ-loop
 fetch-line-requires c κs =
@@ -53,6 +66,9 @@ loop-again c =
     rows-step (l .loop .inv) (i .loop-test .taken) (rw line at (f .fetch-line .ensures))
     (λ k q. rw (digits-div (l .loop .r) q, digits-mod (l .loop .r) q))
 
+same-length : tie.Need-same-length Inv-loop μ-loop
+same-length c = rows-length (c .before .loop .inv)
+
 returns : tie.Need-returns Inv-loop μ-loop
 returns c = rw (toZ-ofZ (start (c .before) .fits .y)) at (rows-all (c .before .loop .inv) (c .loop-test .left))
 
@@ -62,16 +78,16 @@ fetch-lines-spec =
     (tie.spec
     Inv-loop
     μ-loop
-    (λ c. rows-none _ _ _ _ (c .before .before .before .pre .4))
-    (λ c. omega (arith, room c, rows-length (c .before .loop .inv), start (c .before) .good))
-    (λ c. omega (arith, room c, rows-length (c .before .loop .inv), start (c .before) .good))
+    loop-holds
+    mul-o
+    add-e
     shifted-requires
     (λ c. omega arith)
     (λ c. omega arith)
-    (λ c. room (c .before))
+    part-fetch-line-end
     fetch-line-requires
-    (λ c. omega (arith, c .before .before .before .before .before .loop-test .taken, start (c .before .before .before .before .before .before) .pre .3))
-    (λ c. omega (arith, c .before .before .before .before .before .loop-test .taken))
+    (λ c. search needs)
+    (λ c. search needs)
     loop-again
-    (λ c. rows-length (c .before .loop .inv))
+    same-length
     returns)

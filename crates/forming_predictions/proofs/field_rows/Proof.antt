@@ -5,14 +5,8 @@ use borrow.Author.Needs.{needs}
 use Rattle.forming_predictions.proofs.field_rows.Statement.{statement}
 use Rattle.forming_predictions.proofs.field_rows.Tie as tie
 
-height-requires : tie.Need-height-requires
-height-requires c κs = search needs
-
 enum-told : tie.Need-enum-told
 enum-told c = search needs
-
-enum-told-2 : tie.Need-enum-told-2
-enum-told-2 c = search needs
 
 bottom-rows-requires : tie.Need-bottom-rows-requires
 bottom-rows-requires c κs = rw (c .enum-told2 .given .1) at (c .before .before .height .ensures)
@@ -29,4 +23,4 @@ returns-2 c = rw (c .before .enum-told2 .given .1) (c .bottom-rows .ensures)
 pub field-rows-spec : {M : Type 1} → statement M
 field-rows-spec =
     tie.close
-    (tie.spec height-requires enum-told enum-told-2 bottom-rows-requires returns returns-2)
+    (tie.spec (λ c κs. search needs) enum-told (λ c. search needs) bottom-rows-requires returns returns-2)

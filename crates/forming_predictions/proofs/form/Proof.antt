@@ -37,21 +37,6 @@ at-y c =
     let a = s .args in
     inside-yes (a .y) (a .dy + a .block-height) (a .count) (sym (rw (toZ-ofZ (s .fits .y)) at (c .before .before .is-inside2 .ensures)) ∙ sides c .1)
 
-add-is-inside : tie.Need-add-is-inside
-add-is-inside c = search needs
-
-is-inside-requires : tie.Need-is-inside-requires
-is-inside-requires c κs = search needs
-
-add-is-inside-2 : tie.Need-add-is-inside-2
-add-is-inside-2 c = search needs
-
-is-inside-requires-2 : tie.Need-is-inside-requires-2
-is-inside-requires-2 c κs = search needs
-
-by-eights-requires : tie.Need-by-eights-requires
-by-eights-requires c κs = search needs
-
 cast-form-inside : tie.Need-cast-form-inside
 cast-form-inside c = cast-ok (start c .fits .x) tt (at-x c .0)
 
@@ -73,21 +58,12 @@ form-inside-requires c κs =
       eights-yes (s .args .block-width) (sym (t .before .by-eights .ensures) ∙ tests t .1),
     )
 
-same-length : tie.Need-same-length
-same-length c = search needs
-
 returns : tie.Need-returns
 returns c =
     let i = c .before .before in
     let t = i .before .before in
     let s = start t in
     rw (up-is (s .args .x) (s .fits .x) (at-x t .0), up-is (s .args .y) (s .fits .y) (at-y t .0)) at (i .form-inside .ensures)
-
-form-clamped-requires : tie.Need-form-clamped-requires
-form-clamped-requires c κs = search needs
-
-same-length-2 : tie.Need-same-length-2
-same-length-2 c = search needs
 
 returns-2 : tie.Need-returns-2
 returns-2 c =
@@ -99,16 +75,16 @@ pub form-spec : {M : Type 1} → statement M
 form-spec =
     tie.close
     (tie.spec
-    add-is-inside
-    is-inside-requires
-    add-is-inside-2
-    is-inside-requires-2
-    by-eights-requires
+    (λ c. search needs)
+    (λ c κs. search needs)
+    (λ c. search needs)
+    (λ c κs. search needs)
+    (λ c κs. search needs)
     cast-form-inside
     cast-form-inside-2
     form-inside-requires
-    same-length
+    (λ c. search needs)
     returns
-    form-clamped-requires
-    same-length-2
+    (λ c κs. search needs)
+    (λ c. search needs)
     returns-2)

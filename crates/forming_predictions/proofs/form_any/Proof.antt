@@ -1,6 +1,6 @@
 -- `form_any` meets its contract: after r turns the first r rows are in place.
 -- Assumes nothing.
-use Prim.Native.Nat.{ℕ, _+_, _-_, _*_, _/_, _%_, _≤_, _<_}
+use Prim.Native.Nat.{ℕ, _+_, _-_, _*_, _/_, _%_, _≤_}
 use native.Mathlib.Omega.{arith}
 use lib.IntN.{ℤ, pos, _+ℤ_}
 use lib.ListN.{length}
@@ -27,6 +27,18 @@ room : (c : tie.In-loop Inv-loop μ-loop)
     → c .before .loop .r * start (c .before) .args .block-width + start (c .before) .args .block-width ≤ length (c .before .loop .out)
 room c = rows-room (c .before .loop .inv) (c .loop-test .taken)
 
+loop-holds : tie.Need-loop-holds Inv-loop μ-loop
+loop-holds c = rows-none _ _ _ _ (c .before .before .pre .1 .count)
+
+mul-o : tie.Need-mul-o Inv-loop μ-loop
+mul-o c = omega (arith, room c, rows-length (c .before .loop .inv), start (c .before) .good)
+
+add-e : tie.Need-add-e Inv-loop μ-loop
+add-e c = omega (arith, room c, rows-length (c .before .loop .inv), start (c .before) .good)
+
+part-any-line-end : tie.Need-part-any-line-end Inv-loop μ-loop
+part-any-line-end c = room c
+
 any-line-requires : tie.Need-any-line-requires Inv-loop μ-loop
 any-line-requires c κs =
     let i = c .before in
@@ -49,6 +61,9 @@ loop-again c =
     rows-step (l .loop .inv) (i .loop-test .taken) (f .any-line .ensures)
     (λ k h. row-of-block (λ (x y : ℤ). spread (viewRead (a .samples .now) (a .width) (a .first) (a .step) (a .count)) x y (a .dx) (a .dy)) (pos (a .x)) (pos (a .y)) (a .block-width) (l .loop .r) k h)
 
+same-length : tie.Need-same-length Inv-loop μ-loop
+same-length c = rows-length (c .before .loop .inv)
+
 returns : tie.Need-returns Inv-loop μ-loop
 unfolding blockOf
 returns c = rows-all (c .before .loop .inv) (c .loop-test .left)
@@ -59,16 +74,16 @@ form-any-spec =
     (tie.spec
     Inv-loop
     μ-loop
-    (λ c. rows-none _ _ _ _ (c .before .before .pre .1 .count))
-    (λ c. omega (arith, room c, rows-length (c .before .loop .inv), start (c .before) .good))
-    (λ c. omega (arith, room c, rows-length (c .before .loop .inv), start (c .before) .good))
-    (λ c. omega (arith, start (c .before) .pre .0 .high, start (c .before) .pre .2 .below, c .loop-test .taken))
+    loop-holds
+    mul-o
+    add-e
+    (λ c. search needs)
     (λ c. omega arith)
     (λ c. omega arith)
-    (λ c. room c)
+    part-any-line-end
     any-line-requires
-    (λ c. omega (arith, c .before .before .before .before .loop-test .taken, start (c .before .before .before .before .before) .pre .1 .high))
-    (λ c. omega (arith, c .before .before .before .before .loop-test .taken))
+    (λ c. search needs)
+    (λ c. search needs)
     loop-again
-    (λ c. rows-length (c .before .loop .inv))
+    same-length
     returns)

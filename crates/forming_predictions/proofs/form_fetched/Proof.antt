@@ -27,21 +27,6 @@ columns s x e =
     let a = s .args in
     rw e (front-tab (a .block-width + a .dx) (a .block-width + 1) (columnAt (a .width) x) (omega (arith, s .pre .1 .0 .right)))
 
-add-w : tie.Need-add-w
-add-w c = search needs
-
-add-if1 : tie.Need-add-if1
-add-if1 c = search needs
-
-sub-fetch-lines : tie.Need-sub-fetch-lines
-sub-fetch-lines c = search needs
-
-part-fetch-lines-start : tie.Need-part-fetch-lines-start
-part-fetch-lines-start c = search needs
-
-part-fetch-lines-end : tie.Need-part-fetch-lines-end
-part-fetch-lines-end c = search needs
-
 fetch-lines-requires : tie.Need-fetch-lines-requires
 fetch-lines-requires c κs =
     let t = c .before .before in
@@ -55,9 +40,6 @@ fetch-lines-requires c κs =
       omega (arith, b .high),
       b .count ∙ ap (λ (k : ℕ). k * a .block-height) (sym (front-columns-length (s .pre .1 .1) b ∙ narrow)),
     )
-
-same-length : tie.Need-same-length
-same-length c = search needs
 
 returns : tie.Need-returns
 returns c =
@@ -75,26 +57,8 @@ returns c =
     ∙ ap (λ (k : ℕ). blockOf k (a .block-height) (viewRead (a .samples .now) (a .width) (a .first) (a .step) (a .count)) x (a .y)) narrow
     ∙ plain-block (viewRead (a .samples .now) (a .width) (a .first) (a .step) (a .count)) x (a .y) (a .block-width) (a .block-height))
 
-add-n : tie.Need-add-n
-add-n c = search needs
-
 mul-n : tie.Need-mul-n
 mul-n c = let s = at-other c in omega (arith, region-most (s .pre .1 .0), s .pre .1 .0 .wide)
-
-sub-form-region : tie.Need-sub-form-region
-sub-form-region c = search needs
-
-part-form-region-start : tie.Need-part-form-region-start
-part-form-region-start c = search needs
-
-part-form-region-end : tie.Need-part-form-region-end
-part-form-region-end c = search needs
-
-sub-form-region-2 : tie.Need-sub-form-region-2
-sub-form-region-2 c = search needs
-
-part-form-region-start-2 : tie.Need-part-form-region-start-2
-part-form-region-start-2 c = search needs
 
 part-form-region-end-2 : tie.Need-part-form-region-end-2
 part-form-region-end-2 c =
@@ -110,12 +74,6 @@ form-region-requires c κs =
       (b, front-region f b),
     )
 
-same-length-2 : tie.Need-same-length-2
-same-length-2 c = search needs
-
-same-length-3 : tie.Need-same-length-3
-same-length-3 c = search needs
-
 returns-2 : tie.Need-returns-2
 returns-2 c =
     let f = c .before .before .before .before in
@@ -126,23 +84,23 @@ pub form-fetched-spec : {M : Type 1} → statement M
 form-fetched-spec =
     tie.close
     (tie.spec
-    add-w
-    add-if1
-    sub-fetch-lines
-    part-fetch-lines-start
-    part-fetch-lines-end
+    (λ c. search needs)
+    (λ c. search needs)
+    (λ c. search needs)
+    (λ c. search needs)
+    (λ c. search needs)
     fetch-lines-requires
-    same-length
+    (λ c. search needs)
     returns
-    add-n
+    (λ c. search needs)
     mul-n
-    sub-form-region
-    part-form-region-start
-    part-form-region-end
-    sub-form-region-2
-    part-form-region-start-2
+    (λ c. search needs)
+    (λ c. search needs)
+    (λ c. search needs)
+    (λ c. search needs)
+    (λ c. search needs)
     part-form-region-end-2
     form-region-requires
-    same-length-2
-    same-length-3
+    (λ c. search needs)
+    (λ c. search needs)
     returns-2)

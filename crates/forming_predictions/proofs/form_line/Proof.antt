@@ -17,35 +17,14 @@ room c = let s = c .before .before .before in rw (c .line-start .ensures) (here-
 room2 : (c : tie.After-line-start2) → c .line-start2 .result + c .before .before .before .before .args .width ≤ length (c .before .before .before .before .args .samples .now)
 room2 c = let s = c .before .before .before .before in rw (c .line-start2 .ensures) (below-room (s .pre .0) (s .pre .1))
 
-line-start-requires : tie.Need-line-start-requires
-line-start-requires c κs = search needs
-
-add-line-start : tie.Need-add-line-start
-add-line-start c = search needs
-
-line-start-requires-2 : tie.Need-line-start-requires-2
-line-start-requires-2 c κs = search needs
-
 add-e : tie.Need-add-e
 add-e c = omega (arith, room (c .before), c .before .before .before .before .good)
 
 add-f : tie.Need-add-f
 add-f c = omega (arith, room2 c, c .before .before .before .before .good)
 
-sub-form-row : tie.Need-sub-form-row
-sub-form-row c = search needs
-
-part-form-row-start : tie.Need-part-form-row-start
-part-form-row-start c = search needs
-
 part-form-row-end : tie.Need-part-form-row-end
 part-form-row-end c = room (c .before)
-
-sub-form-row-2 : tie.Need-sub-form-row-2
-sub-form-row-2 c = search needs
-
-part-form-row-start-2 : tie.Need-part-form-row-start-2
-part-form-row-start-2 c = search needs
 
 part-form-row-end-2 : tie.Need-part-form-row-end-2
 part-form-row-end-2 c = room2 (c .before)
@@ -58,9 +37,6 @@ form-row-requires c κs =
     let two = l2 .line-start2 .ensures in
     (line-rows (s .pre .0) (s .pre .1) one two, s .pre .2, s .pre .3, same-rows (s .pre .0) (s .pre .1) one two, s .pre .4)
 
-same-length : tie.Need-same-length
-same-length c = search needs
-
 returns : tie.Need-returns
 returns c =
     let l2 = c .before .before .before .before .before .before in
@@ -72,17 +48,17 @@ pub form-line-spec : {M : Type 1} → statement M
 form-line-spec =
     tie.close
     (tie.spec
-    line-start-requires
-    add-line-start
-    line-start-requires-2
+    (λ c κs. search needs)
+    (λ c. search needs)
+    (λ c κs. search needs)
     add-e
     add-f
-    sub-form-row
-    part-form-row-start
+    (λ c. search needs)
+    (λ c. search needs)
     part-form-row-end
-    sub-form-row-2
-    part-form-row-start-2
+    (λ c. search needs)
+    (λ c. search needs)
     part-form-row-end-2
     form-row-requires
-    same-length
+    (λ c. search needs)
     returns)

@@ -19,12 +19,6 @@ count : (s : tie.Start)
     → (let a = s .args in length (a .columns .now) * (a .block-height + a .dy) ≡ (a .block-width + a .dx) * (a .block-height + a .dy))
 count s = ap (λ (k : ℕ). k * (s .args .block-height + s .args .dy)) (s .pre .1 .1 .columns-count)
 
-add-w : tie.Need-add-w
-add-w c = search needs
-
-add-h : tie.Need-add-h
-add-h c = search needs
-
 fetch-lines-requires : tie.Need-fetch-lines-requires
 fetch-lines-requires c κs =
     let s = c .before .before .before .before .before in
@@ -47,12 +41,6 @@ form-inside-requires c κs =
       s .pre .0 .3,
     )
 
-same-length : tie.Need-same-length
-same-length c = search needs
-
-same-length-2 : tie.Need-same-length-2
-same-length-2 c = search needs
-
 returns : tie.Need-returns
 returns c =
     let i = c .before .before in
@@ -70,4 +58,4 @@ returns c =
 pub form-region-spec : {M : Type 1} → statement M
 form-region-spec =
     tie.close
-    (tie.spec add-w add-h fetch-lines-requires form-inside-requires same-length same-length-2 returns)
+    (tie.spec (λ c. search needs) (λ c. search needs) fetch-lines-requires form-inside-requires (λ c. search needs) (λ c. search needs) returns)

@@ -7,24 +7,6 @@ use borrow.Author.Needs.{needs}
 use Rattle.forming_predictions.proofs.form_row.Statement.{statement}
 use Rattle.forming_predictions.proofs.form_row.Tie as tie
 
-add-if1 : tie.Need-add-if1
-add-if1 c = search needs
-
-four-row-requires : tie.Need-four-row-requires
-four-row-requires c κs = search needs
-
-same-length : tie.Need-same-length
-same-length c = search needs
-
-returns : tie.Need-returns
-returns c = search needs
-
-two-row-requires : tie.Need-two-row-requires
-two-row-requires c κs = search needs
-
-same-length-2 : tie.Need-same-length-2
-same-length-2 c = search needs
-
 returns-2 : tie.Need-returns-2
 returns-2 c =
     let e = c .before .before .before .before in
@@ -37,10 +19,10 @@ pub form-row-spec : {M : Type 1} → statement M
 form-row-spec =
     tie.close
     (tie.spec
-    add-if1
-    four-row-requires
-    same-length
-    returns
-    two-row-requires
-    same-length-2
+    (λ c. search needs)
+    (λ c κs. search needs)
+    (λ c. search needs)
+    (λ c. search needs)
+    (λ c κs. search needs)
+    (λ c. search needs)
     returns-2)

@@ -42,12 +42,6 @@ moved-requires c κs = let s = start c in rw (toZ-ofZ (s .fits .x)) (right s .at
 moved-requires-2 : tie.Need-moved-requires-2
 moved-requires-2 c κs = let s = start (c .before) in rw (toZ-ofZ (s .fits .y)) (right s .at-y)
 
-half-step-requires : tie.Need-half-step-requires
-half-step-requires c κs = search needs
-
-half-step-requires-2 : tie.Need-half-step-requires-2
-half-step-requires-2 c κs = search needs
-
 form-requires : tie.Need-form-requires
 form-requires c κs =
     let h2 = c .before in
@@ -68,9 +62,6 @@ form-requires c κs =
         count = r .room;
       },
     )
-
-same-length : tie.Need-same-length
-same-length c = search needs
 
 returns : tie.Need-returns
 returns c =
@@ -97,8 +88,8 @@ form-rows-spec =
     (tie.spec
     moved-requires
     moved-requires-2
-    half-step-requires
-    half-step-requires-2
+    (λ c κs. search needs)
+    (λ c κs. search needs)
     form-requires
-    same-length
+    (λ c. search needs)
     returns)

@@ -48,12 +48,6 @@ moved-requires c κs = let s = start c in rw (toZ-ofZ (s .fits .x)) (right s .at
 moved-requires-2 : tie.Need-moved-requires-2
 moved-requires-2 c κs = let s = start (c .before) in rw (toZ-ofZ (s .fits .y)) (right s .at-y)
 
-half-step-requires : tie.Need-half-step-requires
-half-step-requires c κs = search needs
-
-half-step-requires-2 : tie.Need-half-step-requires-2
-half-step-requires-2 c κs = search needs
-
 form-sample-requires : tie.Need-form-sample-requires
 form-sample-requires c κs =
     let m2 = c .before .before in
@@ -90,7 +84,7 @@ form-rows-sample-spec =
     returns
     moved-requires
     moved-requires-2
-    half-step-requires
-    half-step-requires-2
+    (λ c κs. search needs)
+    (λ c κs. search needs)
     form-sample-requires
     returns-2)

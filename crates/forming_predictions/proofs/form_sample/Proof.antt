@@ -16,21 +16,6 @@ shifted-requires c κs = let s = c .before in (rw (toZ-ofZ (s .fits .x)) (steps-
 shifted-requires-2 : tie.Need-shifted-requires-2
 shifted-requires-2 c κs = let s = c .before .before in (rw (toZ-ofZ (s .fits .y)) (steps-fewer (s .pre .1 .1) (s .pre .0 .2)), search needs)
 
-sample-at-requires : tie.Need-sample-at-requires
-sample-at-requires c κs = search needs
-
-sample-at-requires-2 : tie.Need-sample-at-requires-2
-sample-at-requires-2 c κs = search needs
-
-sample-at-requires-3 : tie.Need-sample-at-requires-3
-sample-at-requires-3 c κs = search needs
-
-sample-at-requires-4 : tie.Need-sample-at-requires-4
-sample-at-requires-4 c κs = search needs
-
-avg4-requires : tie.Need-avg4-requires
-avg4-requires c κs = search needs
-
 returns : tie.Need-returns
 unfolding spread
 returns c =
@@ -59,9 +44,9 @@ form-sample-spec =
     (tie.spec
     shifted-requires
     shifted-requires-2
-    sample-at-requires
-    sample-at-requires-2
-    sample-at-requires-3
-    sample-at-requires-4
-    avg4-requires
+    (λ c κs. search needs)
+    (λ c κs. search needs)
+    (λ c κs. search needs)
+    (λ c κs. search needs)
+    (λ c κs. search needs)
     returns)

@@ -7,9 +7,6 @@ use borrow.Author.Needs.{needs}
 use Rattle.forming_predictions.proofs.half_step.Statement.{statement}
 use Rattle.forming_predictions.proofs.half_step.Tie as tie
 
-split-component-requires : tie.Need-split-component-requires
-split-component-requires c κs = search needs
-
 returns : tie.Need-returns
 returns c =
     let h = c .before in
@@ -21,4 +18,4 @@ returns-2 c =
     rw (sym (rw (toZ-ofZ (h .before .fits .vector)) at (h .split-component .ensures .1)) ∙ c .if1 .left) (refl, omega arith)
 
 pub half-step-spec : {M : Type 1} → statement M
-half-step-spec = tie.close (tie.spec split-component-requires returns returns-2)
+half-step-spec = tie.close (tie.spec (λ c κs. search needs) returns returns-2)

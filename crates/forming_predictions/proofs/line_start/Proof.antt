@@ -14,8 +14,5 @@ add-result c = row-fits (c .args .first) (c .args .step) (c .args .line) (search
 mul-result-2 : tie.Need-mul-result-2
 mul-result-2 c = start-fits _ (c .args .width) (row-small (c .args .first) (c .args .step) (c .args .line) (search needs) (search needs) (search needs)) (search needs)
 
-returns : tie.Need-returns
-returns c = search needs
-
 pub line-start-spec : {M : Type 1} → statement M
-line-start-spec = tie.close (tie.spec mul-result add-result mul-result-2 returns)
+line-start-spec = tie.close (tie.spec mul-result add-result mul-result-2 (λ c. search needs))

@@ -7,12 +7,6 @@ use borrow.Author.Needs.{needs}
 use Rattle.forming_predictions.proofs.mean2_samples.Statement.{statement}
 use Rattle.forming_predictions.proofs.mean2_samples.Tie as tie
 
-average-predictions-requires : tie.Need-average-predictions-requires
-average-predictions-requires c κs = search needs
-
-same-length : tie.Need-same-length
-same-length c = search needs
-
 returns : tie.Need-returns
 returns c =
     let f = c .before .before .average-predictions in
@@ -24,4 +18,4 @@ returns c =
     rw (rw none at (f .ensures .0)) at (f .ensures .1)
 
 pub mean2-samples-spec : {M : Type 1} → statement M
-mean2-samples-spec = tie.close (tie.spec average-predictions-requires same-length returns)
+mean2-samples-spec = tie.close (tie.spec (λ c κs. search needs) (λ c. search needs) returns)

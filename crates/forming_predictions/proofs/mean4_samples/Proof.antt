@@ -30,15 +30,6 @@ shared-slice-read-avg4-3 c = omega (arith, filled-length (c .before .before .bef
 shared-slice-read-avg4-4 : tie.Need-shared-slice-read-avg4-4 Inv-loop μ-loop
 shared-slice-read-avg4-4 c = omega (arith, filled-length (c .before .before .before .before .before .loop .inv))
 
-avg4-requires : tie.Need-avg4-requires Inv-loop μ-loop
-avg4-requires c κs = search needs
-
-slice-write-out : tie.Need-slice-write-out Inv-loop μ-loop
-slice-write-out c = search needs
-
-add-k : tie.Need-add-k Inv-loop μ-loop
-add-k c = search needs
-
 loop-less : tie.Need-loop-less Inv-loop μ-loop
 loop-less c = omega (arith, filled-length (c .before .before .before .before .before .before .loop .inv))
 
@@ -62,9 +53,9 @@ mean4-samples-spec =
     shared-slice-read-avg4-2
     shared-slice-read-avg4-3
     shared-slice-read-avg4-4
-    avg4-requires
-    slice-write-out
-    add-k
+    (λ c κs. search needs)
+    (λ c. search needs)
+    (λ c. search needs)
     loop-less
     loop-again
     same-length

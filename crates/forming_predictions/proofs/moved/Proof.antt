@@ -29,9 +29,6 @@ sum c =
 reach : (c : tie.After-struct-told) → Reach (start c .args .position +ℤ floorHalf (start c .args .vector))
 reach c = moved-reach (start c .pre) (start c .fits .vector)
 
-split-component-requires : tie.Need-split-component-requires
-split-component-requires c κs = search needs
-
 add-result : tie.Need-add-result
 add-result c = rw (sum c) (reach c .here)
 
@@ -39,4 +36,4 @@ returns : tie.Need-returns
 returns c = rw (sum c, toZ-ofZ (reach c .here)) (refl, reach c)
 
 pub moved-spec : {M : Type 1} → statement M
-moved-spec = tie.close (tie.spec split-component-requires add-result returns)
+moved-spec = tie.close (tie.spec (λ c κs. search needs) add-result returns)

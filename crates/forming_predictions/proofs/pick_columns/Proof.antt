@@ -54,38 +54,14 @@ last c =
     let p = start (early e) .pre in
     omega (arith, more e, p .0 .few, p .1, c .if3 .left)
 
-sub-pick-eight : tie.Need-sub-pick-eight
-sub-pick-eight c = search needs
-
-part-pick-eight-start : tie.Need-part-pick-eight-start
-part-pick-eight-start c = search needs
-
-part-pick-eight-end : tie.Need-part-pick-eight-end
-part-pick-eight-end c = search needs
-
-sub-pick-eight-2 : tie.Need-sub-pick-eight-2
-sub-pick-eight-2 c = search needs
-
-part-pick-eight-start-2 : tie.Need-part-pick-eight-start-2
-part-pick-eight-start-2 c = search needs
-
-part-pick-eight-end-2 : tie.Need-part-pick-eight-end-2
-part-pick-eight-end-2 c = search needs
-
 pick-eight-requires : tie.Need-pick-eight-requires
 pick-eight-requires c κs =
     let s = c .before .before .before .before .before in
     let p = s .pre in
     (part-columns 0 (p .0) (p .0 .some), front (s .args .columns .now) 8 (p .0 .some), front (s .args .out .now) 8 (omega (arith, p .0 .some, p .1)))
 
-same-length : tie.Need-same-length
-same-length c = search needs
-
 returns : tie.Need-returns
 returns c = let t = c .before .before .before in whole (first t) (c .if1 .taken)
-
-shared-slice-read-out : tie.Need-shared-slice-read-out
-shared-slice-read-out c = search needs
 
 shared-slice-read-out-2 : tie.Need-shared-slice-read-out-2
 shared-slice-read-out-2 c =
@@ -93,32 +69,14 @@ shared-slice-read-out-2 c =
     let p = start (n .before .before .before .before) .pre in
     p .0 .inside 8 (omega (arith, n .if2 .taken, p .1))
 
-slice-write-out : tie.Need-slice-write-out
-slice-write-out c = search needs
-
-same-length-2 : tie.Need-same-length-2
-same-length-2 c = search needs
-
 returns-2 : tie.Need-returns-2
 returns-2 c =
     let n = c .before .before in
     let t = n .before .before .before .before in
     whole (filled-step (first t) (still (first t) 9 (omega (arith, n .if2 .taken))) refl) (n .if2 .taken)
 
-sub-pick-eight-3 : tie.Need-sub-pick-eight-3
-sub-pick-eight-3 c = search needs
-
-part-pick-eight-start-3 : tie.Need-part-pick-eight-start-3
-part-pick-eight-start-3 c = search needs
-
 part-pick-eight-end-3 : tie.Need-part-pick-eight-end-3
 part-pick-eight-end-3 c = more c
-
-sub-pick-eight-4 : tie.Need-sub-pick-eight-4
-sub-pick-eight-4 c = search needs
-
-part-pick-eight-start-4 : tie.Need-part-pick-eight-start-4
-part-pick-eight-start-4 c = search needs
 
 part-pick-eight-end-4 : tie.Need-part-pick-eight-end-4
 part-pick-eight-end-4 c =
@@ -130,9 +88,6 @@ pick-eight-requires-2 c κs =
     let e = c .before .before in
     let s = start (early e) in
     (part-columns 8 (s .pre .0) (more e), part-length (s .args .columns .now) 8 16 (more e), next-room (first (early e)) (omega (arith, more e, s .pre .1)))
-
-same-length-3 : tie.Need-same-length-3
-same-length-3 c = search needs
 
 returns-3 : tie.Need-returns-3
 returns-3 c = whole (second (c .before .before .before)) (c .if3 .taken)
@@ -165,28 +120,28 @@ pub pick-columns-spec : {M : Type 1} → statement M
 pick-columns-spec =
     tie.close
     (tie.spec
-    sub-pick-eight
-    part-pick-eight-start
-    part-pick-eight-end
-    sub-pick-eight-2
-    part-pick-eight-start-2
-    part-pick-eight-end-2
+    (λ c. search needs)
+    (λ c. search needs)
+    (λ c. search needs)
+    (λ c. search needs)
+    (λ c. search needs)
+    (λ c. search needs)
     pick-eight-requires
-    same-length
+    (λ c. search needs)
     returns
-    shared-slice-read-out
+    (λ c. search needs)
     shared-slice-read-out-2
-    slice-write-out
-    same-length-2
+    (λ c. search needs)
+    (λ c. search needs)
     returns-2
-    sub-pick-eight-3
-    part-pick-eight-start-3
+    (λ c. search needs)
+    (λ c. search needs)
     part-pick-eight-end-3
-    sub-pick-eight-4
-    part-pick-eight-start-4
+    (λ c. search needs)
+    (λ c. search needs)
     part-pick-eight-end-4
     pick-eight-requires-2
-    same-length-3
+    (λ c. search needs)
     returns-3
     shared-slice-read-out-3
     shared-slice-read-out-4

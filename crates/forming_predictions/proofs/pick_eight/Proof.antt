@@ -21,9 +21,6 @@ loop-holds c = filled-none _ _
 mul-out : tie.Need-mul-out Inv-loop μ-loop
 mul-out c = omega (arith, c .loop-test .taken)
 
-shared-slice-read-out : tie.Need-shared-slice-read-out Inv-loop μ-loop
-shared-slice-read-out c = search needs
-
 shared-slice-read-out-2 : tie.Need-shared-slice-read-out-2 Inv-loop μ-loop
 shared-slice-read-out-2 c =
     let i = c .before .before in
@@ -34,12 +31,6 @@ slice-write-out : tie.Need-slice-write-out Inv-loop μ-loop
 slice-write-out c =
     let i = c .before .before in
     omega (arith, i .loop-test .taken, filled-length (i .before .loop .inv), i .before .before .pre .2)
-
-add-k : tie.Need-add-k Inv-loop μ-loop
-add-k c = search needs
-
-loop-less : tie.Need-loop-less Inv-loop μ-loop
-loop-less c = search needs
 
 loop-again : tie.Need-loop-again Inv-loop μ-loop
 loop-again c = filled-step (c .before .before .before .loop .inv) (slice-write-out c) refl
@@ -60,11 +51,11 @@ pick-eight-spec =
     μ-loop
     loop-holds
     mul-out
-    shared-slice-read-out
+    (λ c. search needs)
     shared-slice-read-out-2
     slice-write-out
-    add-k
-    loop-less
+    (λ c. search needs)
+    (λ c. search needs)
     loop-again
     same-length
     returns)

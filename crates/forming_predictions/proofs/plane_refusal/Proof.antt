@@ -7,14 +7,8 @@ use borrow.Author.Needs.{needs}
 use Rattle.forming_predictions.proofs.plane_refusal.Statement.{statement}
 use Rattle.forming_predictions.proofs.plane_refusal.Tie as tie
 
-plane-fits-requires : tie.Need-plane-fits-requires
-plane-fits-requires c κs = search needs
-
-domain-refusal-requires : tie.Need-domain-refusal-requires
-domain-refusal-requires c κs = search needs
-
 returns : tie.Need-returns
 returns c = c .domain-refusal .ensures ∙ ap (λ (b : Bool). cause (not b) 14) (c .before .plane-fits .ensures)
 
 pub plane-refusal-spec : {M : Type 1} → statement M
-plane-refusal-spec = tie.close (tie.spec plane-fits-requires domain-refusal-requires returns)
+plane-refusal-spec = tie.close (tie.spec (λ c κs. search needs) (λ c κs. search needs) returns)

@@ -15,12 +15,6 @@ use borrow.Author.Needs.{needs}
 use Rattle.forming_predictions.proofs.predict_field_sample.Statement.{statement}
 use Rattle.forming_predictions.proofs.predict_field_sample.Tie as tie
 
-field-rows-requires : tie.Need-field-rows-requires
-field-rows-requires c κs = search needs
-
-predict-rows-sample-requires : tie.Need-predict-rows-sample-requires
-predict-rows-sample-requires c κs = search needs
-
 returns : tie.Need-returns
 returns c =
     let f = c .before in
@@ -34,4 +28,4 @@ returns c =
 
 pub predict-field-sample-spec : {M : Type 1} → statement M
 predict-field-sample-spec =
-    tie.close (tie.spec field-rows-requires predict-rows-sample-requires returns)
+    tie.close (tie.spec (λ c κs. search needs) (λ c κs. search needs) returns)

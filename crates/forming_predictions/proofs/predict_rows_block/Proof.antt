@@ -20,9 +20,6 @@ form-rows-requires c κs =
     let s = e .before .before .before in
     (s .pre .0, rw (toZ-ofZ (s .fits .x), toZ-ofZ (s .fits .y)) (sym (s .pre .1) ∙ e .if1 .left))
 
-same-length : tie.Need-same-length
-same-length c = search needs
-
 returns-2 : tie.Need-returns-2
 returns-2 c =
     let f = c .before .before in
@@ -31,4 +28,4 @@ returns-2 c =
     (ap blockAnswer (sym (e .if1 .left) ∙ s .pre .1), rw (toZ-ofZ (s .fits .x), toZ-ofZ (s .fits .y), toZ-ofZ (s .fits .horizontal), toZ-ofZ (s .fits .vertical)) at (f .form-rows .ensures))
 
 pub predict-rows-block-spec : {M : Type 1} → statement M
-predict-rows-block-spec = tie.close (tie.spec returns form-rows-requires same-length returns-2)
+predict-rows-block-spec = tie.close (tie.spec returns form-rows-requires (λ c. search needs) returns-2)

@@ -12,9 +12,6 @@ use borrow.Author.Needs.{needs}
 use Rattle.forming_predictions.proofs.predict_rows_sample.Statement.{statement}
 use Rattle.forming_predictions.proofs.predict_rows_sample.Tie as tie
 
-sample-refusal-requires : tie.Need-sample-refusal-requires
-sample-refusal-requires c κs = search needs
-
 returns : tie.Need-returns
 returns c =
     let n = c .before .sample-refusal in
@@ -22,9 +19,6 @@ returns c =
     let a = s .args in
     let v = formed rounded (rowsSample (a .rows) (a .plane .width) (a .plane .height) (a .samples .now)) (a .x) (a .y) (a .horizontal) (a .vertical) in
     refused-sample (n .result) v (c .if1 .taken) ∙ ap (λ (k : ℕ). sampleAnswer k v) (rw (toZ-ofZ (s .fits .x), toZ-ofZ (s .fits .y)) at (n .ensures))
-
-form-rows-sample-requires : tie.Need-form-rows-sample-requires
-form-rows-sample-requires c κs = search needs
 
 returns-2 : tie.Need-returns-2
 returns-2 c =
@@ -34,4 +28,4 @@ returns-2 c =
 
 pub predict-rows-sample-spec : {M : Type 1} → statement M
 predict-rows-sample-spec =
-    tie.close (tie.spec sample-refusal-requires returns form-rows-sample-requires returns-2)
+    tie.close (tie.spec (λ c κs. search needs) returns (λ c κs. search needs) returns-2)

@@ -15,12 +15,6 @@ use borrow.Author.Needs.{needs}
 use Rattle.forming_predictions.proofs.predict_sample.Statement.{statement}
 use Rattle.forming_predictions.proofs.predict_sample.Tie as tie
 
-frame-rows-requires : tie.Need-frame-rows-requires
-frame-rows-requires c κs = search needs
-
-predict-rows-sample-requires : tie.Need-predict-rows-sample-requires
-predict-rows-sample-requires c κs = search needs
-
 returns : tie.Need-returns
 returns c =
     let f = c .before in
@@ -33,4 +27,4 @@ returns c =
     (answer, (number-of n v answer, value-of n v answer))
 
 pub predict-sample-spec : {M : Type 1} → statement M
-predict-sample-spec = tie.close (tie.spec frame-rows-requires predict-rows-sample-requires returns)
+predict-sample-spec = tie.close (tie.spec (λ c κs. search needs) (λ c κs. search needs) returns)

@@ -22,17 +22,11 @@ place c =
 room : (c : tie.After-clamp-to2) → c .before .line-start .result + c .clamp-to2 .result < length (c .before .before .before .before .args .samples .now)
 room c = let s = c .before .before .before .before in rw (place c) (place-lt (s .args .x) (s .args .y) (s .pre))
 
-clamp-to-requires : tie.Need-clamp-to-requires
-clamp-to-requires c κs = search needs
-
 line-start-requires : tie.Need-line-start-requires
 line-start-requires c κs =
     let s = c .before .before in
     let f = s .pre in
     (f .low, f .apart, f .wide, omega (arith, clamp-lt (s .args .count) (s .args .y) (f .lines), f .high, rw (toZ-ofZ (s .fits .y)) at (c .clamp-to .ensures)))
-
-clamp-to-requires-2 : tie.Need-clamp-to-requires-2
-clamp-to-requires-2 c κs = search needs
 
 add-result : tie.Need-add-result
 add-result c = omega (arith, room c, c .before .before .before .before .good)
@@ -48,9 +42,9 @@ pub sample-at-spec : {M : Type 1} → statement M
 sample-at-spec =
     tie.close
     (tie.spec
-    clamp-to-requires
+    (λ c κs. search needs)
     line-start-requires
-    clamp-to-requires-2
+    (λ c κs. search needs)
     add-result
     shared-slice-read-result
     returns)

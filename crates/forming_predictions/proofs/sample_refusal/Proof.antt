@@ -7,18 +7,6 @@ use borrow.Author.Needs.{needs}
 use Rattle.forming_predictions.proofs.sample_refusal.Statement.{statement}
 use Rattle.forming_predictions.proofs.sample_refusal.Tie as tie
 
-plane-fits-requires : tie.Need-plane-fits-requires
-plane-fits-requires c κs = search needs
-
-position-fits-requires : tie.Need-position-fits-requires
-position-fits-requires c κs = search needs
-
-position-fits-requires-2 : tie.Need-position-fits-requires-2
-position-fits-requires-2 c κs = search needs
-
-domain-refusal-requires : tie.Need-domain-refusal-requires
-domain-refusal-requires c κs = search needs
-
 returns : tie.Need-returns
 returns c =
     let q = c .before in
@@ -33,8 +21,8 @@ pub sample-refusal-spec : {M : Type 1} → statement M
 sample-refusal-spec =
     tie.close
     (tie.spec
-    plane-fits-requires
-    position-fits-requires
-    position-fits-requires-2
-    domain-refusal-requires
+    (λ c κs. search needs)
+    (λ c κs. search needs)
+    (λ c κs. search needs)
+    (λ c κs. search needs)
     returns)

@@ -10,18 +10,12 @@ use borrow.Author.Needs.{needs}
 use Rattle.forming_predictions.proofs.sample_rows.Statement.{statement}
 use Rattle.forming_predictions.proofs.sample_rows.Tie as tie
 
-plane-refusal-requires : tie.Need-plane-refusal-requires
-plane-refusal-requires c κs = search needs
-
 returns : tie.Need-returns
 returns c =
     let n = c .before .plane-refusal in
     let a = c .before .before .before .args in
     let v = rowsSample (a .rows) (a .plane .width) (a .plane .height) (a .samples .now) (a .x) (a .y) in
     refused-sample (n .result) v (c .if1 .taken) ∙ ap (λ (k : ℕ). sampleAnswer k v) (n .ensures)
-
-read-rows-requires : tie.Need-read-rows-requires
-read-rows-requires c κs = search needs
 
 returns-2 : tie.Need-returns-2
 returns-2 c =
@@ -30,4 +24,4 @@ returns-2 c =
     given-sample _ _ _ (sym (e .if1 .left) ∙ ((e .before .plane-refusal .ensures))) (rw (toZ-ofZ (s .fits .x), toZ-ofZ (s .fits .y)) at (c .read-rows .ensures))
 
 pub sample-rows-spec : {M : Type 1} → statement M
-sample-rows-spec = tie.close (tie.spec plane-refusal-requires returns read-rows-requires returns-2)
+sample-rows-spec = tie.close (tie.spec (λ c κs. search needs) returns (λ c κs. search needs) returns-2)

@@ -7,9 +7,6 @@ use borrow.Author.Needs.{needs}
 use Rattle.forming_predictions.proofs.shifted.Statement.{statement}
 use Rattle.forming_predictions.proofs.shifted.Tie as tie
 
-cast-result : tie.Need-cast-result
-cast-result c = search needs
-
 add-result : tie.Need-add-result
 add-result c = rw (toZ-ofZ (c .fits .position), toZ-pos w32 {n = c .args .n} (omega (arith, c .pre))) (c .pre .0 .last)
 
@@ -17,4 +14,4 @@ returns : tie.Need-returns
 returns c = rw (toZ-ofZ (c .fits .position), toZ-pos w32 {n = c .args .n} (omega (arith, c .pre)), toZ-ofZ (c .pre .0 .last))
 
 pub shifted-spec : {M : Type 1} → statement M
-shifted-spec = tie.close (tie.spec cast-result add-result returns)
+shifted-spec = tie.close (tie.spec (λ c. search needs) add-result returns)

@@ -8,12 +8,6 @@ use borrow.Author.Needs.{needs}
 use Rattle.forming_predictions.proofs.split_component.Statement.{statement}
 use Rattle.forming_predictions.proofs.split_component.Tie as tie
 
-whole-part-requires : tie.Need-whole-part-requires
-whole-part-requires c κs = search needs
-
-is-half-requires : tie.Need-is-half-requires
-is-half-requires c κs = search needs
-
 returns : tie.Need-returns
 returns c =
     let f = toZ-ofZ (c .before .before .fits .vector) in
@@ -21,4 +15,4 @@ returns c =
     (back w32 (w .result) (w .ok) ∙ (rw f at (w .ensures)), rw f at (c .is-half .ensures))
 
 pub split-component-spec : {M : Type 1} → statement M
-split-component-spec = tie.close (tie.spec whole-part-requires is-half-requires returns)
+split-component-spec = tie.close (tie.spec (λ c κs. search needs) (λ c κs. search needs) returns)

@@ -5,12 +5,6 @@ use borrow.Author.Needs.{needs}
 use Rattle.forming_predictions.proofs.split_vector.Statement.{statement}
 use Rattle.forming_predictions.proofs.split_vector.Tie as tie
 
-split-component-requires : tie.Need-split-component-requires
-split-component-requires c κs = search needs
-
-split-component-requires-2 : tie.Need-split-component-requires-2
-split-component-requires-2 c κs = search needs
-
 returns : tie.Need-returns
 returns c =
     let s = c .before .before in
@@ -18,4 +12,4 @@ returns c =
 
 pub split-vector-spec : {M : Type 1} → statement M
 split-vector-spec =
-    tie.close (tie.spec split-component-requires split-component-requires-2 returns)
+    tie.close (tie.spec (λ c κs. search needs) (λ c κs. search needs) returns)

@@ -26,32 +26,8 @@ early c = c .before .before .before
 more : (c : tie.Else1) → length (start (early c) .args .out .now) ≡ 16
 more c = start (early c) .pre .1 .more (λ z. c .if1 .left (filled-length (first (early c)) ∙ z))
 
-sub-two-eight : tie.Need-sub-two-eight
-sub-two-eight c = search needs
-
-part-two-eight-start : tie.Need-part-two-eight-start
-part-two-eight-start c = search needs
-
-part-two-eight-end : tie.Need-part-two-eight-end
-part-two-eight-end c = search needs
-
-two-eight-requires : tie.Need-two-eight-requires
-two-eight-requires c κs = search needs
-
-same-length : tie.Need-same-length
-same-length c = search needs
-
 returns : tie.Need-returns
 returns c = whole (first (c .before .before .before)) (omega (arith, filled-length (first (c .before .before .before)), c .if1 .taken))
-
-add-two-eight : tie.Need-add-two-eight
-add-two-eight c = search needs
-
-sub-two-eight-2 : tie.Need-sub-two-eight-2
-sub-two-eight-2 c = search needs
-
-part-two-eight-start-2 : tie.Need-part-two-eight-start-2
-part-two-eight-start-2 c = search needs
 
 part-two-eight-end-2 : tie.Need-part-two-eight-end-2
 part-two-eight-end-2 c = still (first (early c)) 16 (omega (arith, more c))
@@ -61,9 +37,6 @@ two-eight-requires-2 c κs =
     let e = c .before in
     let p = start (early e) .pre in
     (record { right = omega (arith, p .0 .right, more e); same = p .0 .same }, next-room (first (early e)) (omega (arith, more e)))
-
-same-length-2 : tie.Need-same-length-2
-same-length-2 c = search needs
 
 returns-2 : tie.Need-returns-2
 returns-2 c =
@@ -76,16 +49,16 @@ pub two-row-spec : {M : Type 1} → statement M
 two-row-spec =
     tie.close
     (tie.spec
-    sub-two-eight
-    part-two-eight-start
-    part-two-eight-end
-    two-eight-requires
-    same-length
+    (λ c. search needs)
+    (λ c. search needs)
+    (λ c. search needs)
+    (λ c κs. search needs)
+    (λ c. search needs)
     returns
-    add-two-eight
-    sub-two-eight-2
-    part-two-eight-start-2
+    (λ c. search needs)
+    (λ c. search needs)
+    (λ c. search needs)
     part-two-eight-end-2
     two-eight-requires-2
-    same-length-2
+    (λ c. search needs)
     returns-2)

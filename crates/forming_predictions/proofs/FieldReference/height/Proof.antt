@@ -9,12 +9,6 @@ use Rattle.forming_predictions.proofs.FieldReference.height.Tie as tie
 enum-told : tie.Need-enum-told
 enum-told c = search needs
 
-sub-result : tie.Need-sub-result
-sub-result c = search needs
-
-enum-told-2 : tie.Need-enum-told-2
-enum-told-2 c = search needs
-
 returns : tie.Need-returns
 returns c = rw (c .enum-told .given .1) (omega (arith, top-lines (c .before .before .args .self .plane .height)))
 
@@ -22,4 +16,4 @@ returns-2 : tie.Need-returns-2
 returns-2 c = rw (c .enum-told2 .given .1) (omega (arith, bottom-lines (c .before .before .args .self .plane .height)))
 
 pub height-spec : {M : Type 1} → statement M
-height-spec = tie.close (tie.spec enum-told sub-result enum-told-2 returns returns-2)
+height-spec = tie.close (tie.spec enum-told (λ c. search needs) (λ c. search needs) returns returns-2)

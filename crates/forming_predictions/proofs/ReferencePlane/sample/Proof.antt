@@ -13,12 +13,6 @@ use borrow.Author.Needs.{needs}
 use Rattle.forming_predictions.proofs.ReferencePlane.sample.Statement.{statement}
 use Rattle.forming_predictions.proofs.ReferencePlane.sample.Tie as tie
 
-frame-rows-requires : tie.Need-frame-rows-requires
-frame-rows-requires c κs = search needs
-
-sample-rows-requires : tie.Need-sample-rows-requires
-sample-rows-requires c κs = search needs
-
 returns : tie.Need-returns
 returns c =
     let f = c .before in
@@ -31,4 +25,4 @@ returns c =
     (answer, (number-of n v answer, value-of n v answer))
 
 pub sample-spec : {M : Type 1} → statement M
-sample-spec = tie.close (tie.spec frame-rows-requires sample-rows-requires returns)
+sample-spec = tie.close (tie.spec (λ c κs. search needs) (λ c κs. search needs) returns)
