@@ -3,7 +3,7 @@
 use mathlib.Core.Path.{_≡_, refl, sym, ap, _∙_}
 use mathlib.Core.Bool.{true, false}
 use mathlib.Core.List.{List, [], _∷_}
-use Prim.Native.Nat.{ℕ, zero, suc, _+_, _-_, _*_, _/_, _%_, _≤_, _<_}
+use Prim.Native.Nat.{ℕ, _+_, _-_, _*_, _/_, _%_, _≤_, _<_}
 use native.Mathlib.Nat.{zero-add, one-mul, mul-comm, mul-le-mul, mod-lt, div-lt-iff-lt-mul}
 use native.Mathlib.Omega.{arith}
 use lib.Arith.{digits-lt, digits-div, digits-mod}
@@ -28,15 +28,6 @@ use Rattle.forming_predictions.proofs.RowMeans.{mean4-same}
 pub row-of-block : (rule : ℤ → ℤ → ℕ) (x y : ℤ) (w r c : ℕ) → c < w
     → rule (x +ℤ pos c) (y +ℤ pos r) ≡ rule (x +ℤ pos ((r * w + c) % w)) (y +ℤ pos ((r * w + c) / w))
 row-of-block rule x y w r c p = rw (digits-div r p, digits-mod r p)
-
--- its length, and its sample k
-pub block-length : (w h : ℕ) (rule : ℤ → ℤ → ℕ) (x y : ℤ) → length (blockOf w h rule x y) ≡ w * h
-unfolding blockOf
-block-length w h rule x y = length-tab (w * h) _
-
-pub block-at : (w h : ℕ) (rule : ℤ → ℤ → ℕ) (x y : ℤ) (k : ℕ) → k < w * h → getD (blockOf w h rule x y) k 0 ≡ rule (x +ℤ pos (k % w)) (y +ℤ pos (k / w))
-unfolding blockOf
-block-at w h rule x y k p = getD-tab (w * h) _ k 0 p
 
 -- two rules that agree give one block
 pub block-ext : (w h : ℕ) (f g : ℤ → ℤ → ℕ) (x y : ℤ) → ((a b : ℤ) → f a b ≡ g a b) → blockOf w h f x y ≡ blockOf w h g x y
@@ -104,7 +95,7 @@ module _ {s columns : List ℕ} {w first step count : ℕ} (f : ViewFits s w fir
   pub fetch-columns : ColumnsFit columns (length (take (a + w - a) (drop a s)))
   fetch-columns =
       let l = part-length s a (a + w) fetch-room in
-      record { some = g .some; few = g .few; more = g .more; inside = λ k h. omega (arith, g .inside k h) }
+      record { some = g .some; few = g .few; even = g .even; inside = λ k h. omega (arith, g .inside k h) }
 
   pub fetch-cells : (k : ℕ) → k < length columns
       → getD (take (a + w - a) (drop a s)) (getD columns k 0) 0 ≡ picked s w first step count columns y k
@@ -254,11 +245,6 @@ front-tab m n f h =
     let here : m - 0 ≡ m = omega arith in
     rw (here, all, ← tab-append m (n - m) f) (take-at (tabulate m f) _ m (length-tab m f))
 
-not-eight : (bw dx n : ℕ) → dx ≤ 1 → n ≡ bw + dx → (n ≡ 8 → ⊥) → (n ≡ 9 → ⊥) → bw ≡ 8 → ⊥
-not-eight bw zero n h l p q e = p (omega arith)
-not-eight bw (suc zero) n h l p q e = q (omega arith)
-not-eight bw (suc (suc dx)) n h l p q e = omega arith
-
 module _ {columns region : List ℕ} {w dx dy bw bh : ℕ} {o : List ℕ} (f : FetchFits columns region w bw) (b : BlockFits dx dy bw bh o) where
   pub front-columns-length : length (take (bw + dx - 0) columns) ≡ bw + dx
   front-columns-length = front columns (bw + dx) (omega (arith, f .columns-count, b .right))
@@ -269,7 +255,7 @@ module _ {columns region : List ℕ} {w dx dy bw bh : ℕ} {o : List ℕ} (f : F
       record {
         some = omega (arith, e .some);
         few = omega (arith, e .wide, b .right);
-        more = λ p q. omega (arith, e .more (not-eight bw dx (length (take (bw + dx - 0) columns)) (b .right) l p q));
+        even = omega (arith, e .some, e .wide, e .even, b .right);
         inside = λ k h. rw (getD-take (bw + dx - 0) columns k 0 (omega arith)) (f .inside k (omega (arith, f .columns-count, b .right)));
       }
 

@@ -23,26 +23,23 @@ eight {f} {g} {d} {ys} p e q = filled-part 8 (filled-none f d) p e (λ i h. q i 
 
 pub sixteen : {f g : ℕ → ℕ} {d o ys : List ℕ} → Filled f d 8 o → 16 ≤ length d → ys ≡ tabulate 8 g → ((i : ℕ) → i < 8 → g i ≡ f (8 + i))
     → Filled f d 16 (putMid 8 8 o ys)
-sixteen h p e q = filled-part 8 h (omega (arith, filled-length h)) e q
+sixteen h p e q = filled-part 8 h (omega arith) e q
 
--- places in the buffer, whatever was written
+-- a place in the buffer, whatever was written
 pub still : {f : ℕ → ℕ} {d o : List ℕ} {n : ℕ} → Filled f d n o → (m : ℕ) → m ≤ length d → m ≤ length o
-still h m p = omega (arith, filled-length h)
-
-pub next-room : {f : ℕ → ℕ} {d o : List ℕ} → Filled f d 8 o → 16 ≤ length d → length (take 8 (drop 8 o)) ≡ 8
-next-room {f} {d} {o} h p = part-length o 8 16 (still h 16 p)
+still h m p = omega arith
 
 -- and the whole of it
 pub whole : {f : ℕ → ℕ} {d o : List ℕ} {n : ℕ} → Filled f d n o → length d ≡ n → o ≡ tabulate (length d) f
-whole h e = filled-all h (omega (arith, filled-length h)) refl
+whole h e = filled-all h (omega arith) refl
 
 -- the last eight of at most sixteen, of which the first eight are in place
 pub overlapped : {f g : ℕ → ℕ} {d o ys : List ℕ} → Filled f d 8 o → length d ≤ 16 → ys ≡ tabulate 8 g
     → ((i : ℕ) → i < 8 → g i ≡ f (length d - 8 + i))
     → putMid (length d - 8) (length d - (length d - 8)) o ys ≡ tabulate (length d) f
 overlapped {f} {g} {d} {o} {ys} h p e q =
-    let end : length d - 8 + 8 ≡ length d = omega (arith, h .within) in
-    let last = filled-part 8 (filled-again (length d - 8) h (omega arith)) (omega (arith, filled-length h)) e q in
+    let end : length d - 8 + 8 ≡ length d = omega arith in
+    let last = filled-part 8 (filled-again (length d - 8) h (omega arith)) (omega arith) e q in
     filled-all (rw end at last) (omega (arith, filled-length (rw end at last), filled-length h)) (filled-length h)
 
 -- m columns further
@@ -64,10 +61,10 @@ four-next row below x dx m i =
 eights-of : (n : ℕ) → (eqb n 8 ≡ true) ⊎ (eqb n 16 ≡ true) → Eights n
 eights-of n (inl p) =
     let e = eqb-true n 8 p in
-    record { some = omega arith; wide = omega arith; more = λ h. absurd (h e) }
+    record { some = omega arith; wide = omega arith; even = omega arith }
 eights-of n (inr p) =
     let e = eqb-true n 16 p in
-    record { some = omega arith; wide = omega arith; more = λ h. e }
+    record { some = omega arith; wide = omega arith; even = omega arith }
 
 pub eights-yes : (n : ℕ) → (eqb n 8 || eqb n 16) ≡ true → Eights n
 eights-yes n e = eights-of n (either (eqb n 8) (eqb n 16) e)
@@ -79,6 +76,6 @@ part-columns {columns} {w} a f h =
     record {
       some = omega arith;
       few = omega arith;
-      more = λ p q. absurd (p long);
+      even = omega arith;
       inside = λ k l. rw (part-at columns a (a + 8) k (omega arith)) (f .inside (a + k) (omega arith));
     }

@@ -9,7 +9,7 @@ use native.Mathlib.Omega.{arith}
 use lib.ListN.{length, take, drop}
 use borrow.Rule.Slice.PartMut.{putMid}
 use Rattle.laws.specs.Tabulate.{tabulate}
-use Rattle.laws.proofs.Filled.{Filled, filled-none, filled-length, filled-part, filled-all}
+use Rattle.laws.proofs.Filled.{Filled, filled-none, filled-part, filled-all}
 use Rattle.laws.proofs.Parts.{part-length}
 
 -- row r of h rows of w elements
@@ -27,12 +27,9 @@ pub rows-none : (f : ℕ → ℕ) (d : List ℕ) (w h : ℕ) → length d ≡ w 
 rows-none f d w h e = record { count = e; few = omega arith; filled = rw (zero-mul w) (filled-none f d) }
 
 module _ {f : ℕ → ℕ} {d : List ℕ} {w h r : ℕ} {o : List ℕ} (p : RowsFilled f d w h r o) where
-  pub rows-length : length o ≡ length d
-  rows-length = filled-length (p .filled)
-
   -- the next row lies in the buffer, as a part of w elements
   pub rows-room : r < h → r * w + w ≤ length o
-  rows-room l = omega (arith, rows-length, p .count, row-in r h w l)
+  rows-room l = omega (arith, row-in r h w l)
 
   pub rows-part : r < h → length (take (r * w + w - r * w) (drop (r * w) o)) ≡ w
   rows-part l = part-length o (r * w) (r * w + w) (rows-room l) ∙ omega arith
@@ -53,6 +50,6 @@ module _ {f : ℕ → ℕ} {d : List ℕ} {w h r : ℕ} {o : List ℕ} (p : Rows
   -- where the loop has ended
   pub rows-all : h ≤ r → o ≡ tabulate (w * h) f
   rows-all l =
-      let e : r ≡ h = omega (arith, p .few) in
+      let e : r ≡ h = omega arith in
       let all : r * w ≡ w * h = rw e (mul-comm h w) in
-      filled-all (p .filled) (omega (arith, rows-length, p .count)) (p .count)
+      filled-all (p .filled) (omega arith) (p .count)

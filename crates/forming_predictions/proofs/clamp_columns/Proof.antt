@@ -31,23 +31,12 @@ shifted-requires c κs =
     let few = filled-length (c .before .loop .inv) in
     (rw (toZ-ofZ (s .fits .x)) (steps-fewer (s .pre .0) (omega (arith, c .loop-test .taken, s .pre .1))), omega (arith, c .loop-test .taken, s .pre .1))
 
-mul-columns : tie.Need-mul-columns Inv-loop μ-loop
-mul-columns c =
-    let i = c .before .before in
-    omega (arith, i .loop-test .taken, filled-length (i .before .loop .inv), i .before .before .before .pre .1)
-
-loop-less : tie.Need-loop-less Inv-loop μ-loop
-loop-less c = omega (arith, filled-length (c .before .before .before .loop .inv))
-
 loop-again : tie.Need-loop-again Inv-loop μ-loop
 unfolding columnAt
 loop-again c =
     let s = c .before in
     let at = c .clamp-to .ensures ∙ ap (clampTo (s .before .before .before .before .args .width)) (back w32 (s .shifted .result) (s .shifted .ok) ∙ s .shifted .ensures) in
     filled-step (s .before .before .loop .inv) (search needs) at
-
-same-length : tie.Need-same-length Inv-loop μ-loop
-same-length c = filled-length (c .before .loop .inv)
 
 returns : tie.Need-returns Inv-loop μ-loop
 returns c = rw (toZ-ofZ (c .before .before .before .fits .x)) at (filled-all (c .before .loop .inv) (search needs) refl)
@@ -61,10 +50,10 @@ clamp-columns-spec =
     loop-holds
     shifted-requires
     (λ c κs. search needs)
-    mul-columns
     (λ c. search needs)
     (λ c. search needs)
-    loop-less
+    (λ c. search needs)
+    (λ c. search needs)
     loop-again
-    same-length
+    (λ c. search needs)
     returns)

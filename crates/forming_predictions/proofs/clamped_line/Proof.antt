@@ -50,17 +50,11 @@ clamped-sample-requires c κs =
       (rw (at c, toZ-ofZ (s .fits .x)) (steps-on (i .before .loop .k) (p .1) (omega arith)), rw (toZ-ofZ (s .fits .y)) (p .2)),
     )
 
-loop-less : tie.Need-loop-less Inv-loop μ-loop
-loop-less c = omega (arith, filled-length (c .before .before .before .loop .inv))
-
 loop-again : tie.Need-loop-again Inv-loop μ-loop
 unfolding lineCell
 loop-again c =
     let d = c .before in
     filled-step (d .before .before .loop .inv) (search needs) (rw (at d) at (c .clamped-sample .ensures))
-
-same-length : tie.Need-same-length Inv-loop μ-loop
-same-length c = filled-length (c .before .loop .inv)
 
 returns : tie.Need-returns Inv-loop μ-loop
 returns c =
@@ -78,7 +72,7 @@ clamped-line-spec =
     clamped-sample-requires
     (λ c. search needs)
     (λ c. search needs)
-    loop-less
+    (λ c. search needs)
     loop-again
-    same-length
+    (λ c. search needs)
     returns)

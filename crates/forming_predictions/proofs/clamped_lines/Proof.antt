@@ -9,7 +9,7 @@ use mir.Syntax.{w32}
 use mir.Val.{toZ, ofZ}
 use mir.Facts.{toZ-ofZ}
 use Rattle.laws.proofs.Bits.{back}
-use Rattle.laws.proofs.Rows.{RowsFilled, rows-none, rows-length, rows-room, rows-part, rows-step, rows-all}
+use Rattle.laws.proofs.Rows.{RowsFilled, rows-none, rows-room, rows-part, rows-step, rows-all}
 use Rattle.forming_predictions.specs.Forming.{blockOf}
 use Rattle.forming_predictions.specs.inner.Views.{viewRead, spread, lineCell}
 use Rattle.forming_predictions.proofs.Blocks.{row-of-block}
@@ -40,12 +40,6 @@ at c = back w32 (c .shifted .result) (c .shifted .ok) ∙ c .shifted .ensures
 
 loop-holds : tie.Need-loop-holds Inv-loop μ-loop
 loop-holds c = rows-none _ _ _ _ (c .before .before .pre .3 .count)
-
-mul-o : tie.Need-mul-o Inv-loop μ-loop
-mul-o c = omega (arith, room c, rows-length (c .before .loop .inv), start (c .before) .good)
-
-add-e : tie.Need-add-e Inv-loop μ-loop
-add-e c = omega (arith, room c, rows-length (c .before .loop .inv), start (c .before) .good)
 
 shifted-requires : tie.Need-shifted-requires Inv-loop μ-loop
 shifted-requires c κs =
@@ -82,9 +76,6 @@ loop-again c =
     rows-step (l .loop .inv) (i .loop-test .taken) (rw (at h) at (f .clamped-line .ensures))
     (λ k q. row-of-block (λ (x y : ℤ). spread (viewRead (a .samples .now) (a .width) (a .first) (a .step) (a .count)) x y (a .dx) (a .dy)) (toZ w32 (ofZ w32 (a .x))) (toZ w32 (ofZ w32 (a .y))) (a .block-width) (l .loop .r) k q)
 
-same-length : tie.Need-same-length Inv-loop μ-loop
-same-length c = rows-length (c .before .loop .inv)
-
 returns : tie.Need-returns Inv-loop μ-loop
 unfolding blockOf
 returns c =
@@ -98,8 +89,8 @@ clamped-lines-spec =
     Inv-loop
     μ-loop
     loop-holds
-    mul-o
-    add-e
+    (λ c. search needs)
+    (λ c. search needs)
     shifted-requires
     (λ c. omega arith)
     (λ c. omega arith)
@@ -108,5 +99,5 @@ clamped-lines-spec =
     (λ c. search needs)
     (λ c. search needs)
     loop-again
-    same-length
+    (λ c. search needs)
     returns)

@@ -20,15 +20,10 @@ loop-holds : tie.Need-loop-holds Inv-loop μ-loop
 loop-holds c = filled-none _ _
 
 slice-write-out : tie.Need-slice-write-out Inv-loop μ-loop
-slice-write-out c =
-    let l = c .before .before in
-    omega (arith, c .before .loop-test .taken, filled-length (l .loop .inv), l .before .pre .1)
+slice-write-out c = search needs
 
 loop-again : tie.Need-loop-again Inv-loop μ-loop
 loop-again c = filled-step (c .before .before .loop .inv) (slice-write-out c) refl
-
-same-length : tie.Need-same-length Inv-loop μ-loop
-same-length c = filled-length (c .before .loop .inv)
 
 returns : tie.Need-returns Inv-loop μ-loop
 returns c =
@@ -48,5 +43,5 @@ copy-eight-spec =
     (λ c. search needs)
     (λ c. search needs)
     loop-again
-    same-length
+    (λ c. search needs)
     returns)

@@ -10,7 +10,7 @@ use mir.Syntax.{w32}
 use mir.Val.{toZ}
 use mir.Facts.{toZ-ofZ}
 use Rattle.laws.proofs.Bits.{back}
-use Rattle.laws.proofs.Rows.{RowsFilled, rows-none, rows-length, rows-room, rows-part, rows-step, rows-all}
+use Rattle.laws.proofs.Rows.{RowsFilled, rows-none, rows-room, rows-part, rows-step, rows-all}
 use Rattle.forming_predictions.specs.inner.Views.{picked}
 use Rattle.forming_predictions.proofs.Views.{steps-fewer}
 use borrow.Author.Needs.{needs}
@@ -34,12 +34,6 @@ room c = rows-room (c .before .loop .inv) (c .loop-test .taken)
 
 loop-holds : tie.Need-loop-holds Inv-loop μ-loop
 loop-holds c = rows-none _ _ _ _ (c .before .before .before .pre .4)
-
-mul-o : tie.Need-mul-o Inv-loop μ-loop
-mul-o c = omega (arith, room c, rows-length (c .before .loop .inv), start (c .before) .good)
-
-add-e : tie.Need-add-e Inv-loop μ-loop
-add-e c = omega (arith, room c, rows-length (c .before .loop .inv), start (c .before) .good)
 
 shifted-requires : tie.Need-shifted-requires Inv-loop μ-loop
 shifted-requires c κs =
@@ -66,9 +60,6 @@ loop-again c =
     rows-step (l .loop .inv) (i .loop-test .taken) (rw line at (f .fetch-line .ensures))
     (λ k q. rw (digits-div (l .loop .r) q, digits-mod (l .loop .r) q))
 
-same-length : tie.Need-same-length Inv-loop μ-loop
-same-length c = rows-length (c .before .loop .inv)
-
 returns : tie.Need-returns Inv-loop μ-loop
 returns c = rw (toZ-ofZ (start (c .before) .fits .y)) at (rows-all (c .before .loop .inv) (c .loop-test .left))
 
@@ -79,8 +70,8 @@ fetch-lines-spec =
     Inv-loop
     μ-loop
     loop-holds
-    mul-o
-    add-e
+    (λ c. search needs)
+    (λ c. search needs)
     shifted-requires
     (λ c. omega arith)
     (λ c. omega arith)
@@ -89,5 +80,5 @@ fetch-lines-spec =
     (λ c. search needs)
     (λ c. search needs)
     loop-again
-    same-length
+    (λ c. search needs)
     returns)

@@ -4,7 +4,7 @@ use Prim.Native.Nat.{ℕ, _+_, _-_, _*_, _/_, _%_, _≤_}
 use native.Mathlib.Omega.{arith}
 use lib.IntN.{ℤ, pos, _+ℤ_}
 use lib.ListN.{length}
-use Rattle.laws.proofs.Rows.{RowsFilled, rows-none, rows-length, rows-room, rows-part, rows-step, rows-all}
+use Rattle.laws.proofs.Rows.{RowsFilled, rows-none, rows-room, rows-part, rows-step, rows-all}
 use Rattle.forming_predictions.specs.Forming.{blockOf}
 use Rattle.forming_predictions.specs.inner.Views.{viewRead, spread, lineCell}
 use Rattle.forming_predictions.proofs.Blocks.{row-of-block}
@@ -29,12 +29,6 @@ room c = rows-room (c .before .loop .inv) (c .loop-test .taken)
 
 loop-holds : tie.Need-loop-holds Inv-loop μ-loop
 loop-holds c = rows-none _ _ _ _ (c .before .before .pre .1 .count)
-
-mul-o : tie.Need-mul-o Inv-loop μ-loop
-mul-o c = omega (arith, room c, rows-length (c .before .loop .inv), start (c .before) .good)
-
-add-e : tie.Need-add-e Inv-loop μ-loop
-add-e c = omega (arith, room c, rows-length (c .before .loop .inv), start (c .before) .good)
 
 part-any-line-end : tie.Need-part-any-line-end Inv-loop μ-loop
 part-any-line-end c = room c
@@ -61,9 +55,6 @@ loop-again c =
     rows-step (l .loop .inv) (i .loop-test .taken) (f .any-line .ensures)
     (λ k h. row-of-block (λ (x y : ℤ). spread (viewRead (a .samples .now) (a .width) (a .first) (a .step) (a .count)) x y (a .dx) (a .dy)) (pos (a .x)) (pos (a .y)) (a .block-width) (l .loop .r) k h)
 
-same-length : tie.Need-same-length Inv-loop μ-loop
-same-length c = rows-length (c .before .loop .inv)
-
 returns : tie.Need-returns Inv-loop μ-loop
 unfolding blockOf
 returns c = rows-all (c .before .loop .inv) (c .loop-test .left)
@@ -75,8 +66,8 @@ form-any-spec =
     Inv-loop
     μ-loop
     loop-holds
-    mul-o
-    add-e
+    (λ c. search needs)
+    (λ c. search needs)
     (λ c. search needs)
     (λ c. omega arith)
     (λ c. omega arith)
@@ -85,5 +76,5 @@ form-any-spec =
     (λ c. search needs)
     (λ c. search needs)
     loop-again
-    same-length
+    (λ c. search needs)
     returns)

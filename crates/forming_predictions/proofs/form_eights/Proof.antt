@@ -20,7 +20,7 @@ columns d =
     ∙ ap (λ (k : ℕ). tabulate (k + 1) (columnAt (s .args .width) (s .args .x))) (sym (t .if1 .taken))
 
 sixteen : (e : tie.Else1) → e .before .before .before .args .block-width ≡ 16
-sixteen e = e .before .before .before .pre .4 .more (e .if1 .left)
+sixteen e = search needs
 
 columns2 : (d : tie.After-clamp-columns2)
     → d .clamp-columns2 .last .1 .1 .0 ≡ (let a = d .before .before .before .before .before .args in tabulate (a .block-width + 1) (columnAt (a .width) (a .x)))

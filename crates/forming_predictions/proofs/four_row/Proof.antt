@@ -1,12 +1,12 @@
 -- `four_row` meets its contract: the first eight, and the next eight where there are more.
 -- Assumes nothing.
-use mathlib.Core.Path.{_≡_, refl, _∙_}
+use mathlib.Core.Path.{_≡_, refl}
 use native.Mathlib.Omega.{arith}
 use lib.ListN.{length}
 use borrow.Rule.Slice.PartMut.{putMid}
 use Rattle.laws.proofs.Filled.{Filled, filled-length}
 use Rattle.forming_predictions.specs.inner.Views.{fourOf}
-use Rattle.forming_predictions.proofs.Eights.{eight, sixteen, still, next-room, whole, four-next}
+use Rattle.forming_predictions.proofs.Eights.{eight, sixteen, whole, four-next}
 use borrow.Author.Needs.{needs}
 use Rattle.forming_predictions.proofs.four_row.Statement.{statement}
 use Rattle.forming_predictions.proofs.four_row.Tie as tie
@@ -19,31 +19,17 @@ first : (t : tie.After-four-eight)
     → (let a = start t .args in Filled (fourOf (a .row .now) (a .below .now) (a .x) (a .dx)) (a .out .now) 8 (putMid 0 8 (a .out .now) (t .four-eight .last .1 .1 .1 .1 .0)))
 first t = eight (start t .pre .1 .some) (t .four-eight .ensures) (λ i h. refl)
 
-abbrev early : tie.Else1 → tie.After-four-eight
-early c = c .before .before .before
-
--- there are eight more
-more : (c : tie.Else1) → length (start (early c) .args .out .now) ≡ 16
-more c = start (early c) .pre .1 .more (λ z. c .if1 .left (filled-length (first (early c)) ∙ z))
-
 returns : tie.Need-returns
-returns c = whole (first (c .before .before .before)) (omega (arith, filled-length (first (c .before .before .before)), c .if1 .taken))
-
-part-four-eight-end-2 : tie.Need-part-four-eight-end-2
-part-four-eight-end-2 c = still (first (early c)) 16 (omega (arith, more c))
-
-four-eight-requires-2 : tie.Need-four-eight-requires-2
-four-eight-requires-2 c κs =
-    let e = c .before in
-    let p = start (early e) .pre in
-    (record { right = omega (arith, p .0 .right, more e); same = p .0 .same }, next-room (first (early e)) (omega (arith, more e)))
+returns c = let f = first (c .before .before .before) in whole f (omega (arith, filled-length f, c .if1 .taken))
 
 returns-2 : tie.Need-returns-2
 returns-2 c =
     let u = c .before .before in
     let e = u .before .before in
-    let a = start (early e) .args in
-    whole (sixteen (first (early e)) (omega (arith, more e)) (u .four-eight2 .ensures) (λ i h. four-next (a .row .now) (a .below .now) (a .x) (a .dx) 8 i)) (more e)
+    let t = e .before .before .before in
+    let a = start t .args in
+    let n : length (a .out .now) ≡ 16 = search needs in
+    whole (sixteen (first t) (omega arith) (u .four-eight2 .ensures) (λ i h. four-next (a .row .now) (a .below .now) (a .x) (a .dx) 8 i)) n
 
 pub four-row-spec : {M : Type 1} → statement M
 four-row-spec =
@@ -58,7 +44,7 @@ four-row-spec =
     (λ c. search needs)
     (λ c. search needs)
     (λ c. search needs)
-    part-four-eight-end-2
-    four-eight-requires-2
+    (λ c. search needs)
+    (λ c κs. search needs)
     (λ c. search needs)
     returns-2)

@@ -18,9 +18,6 @@ abbrev μ-loop : tie.MeasureT-loop
 loop-holds : tie.Need-loop-holds Inv-loop μ-loop
 loop-holds c = filled-none _ _
 
-mul-out : tie.Need-mul-out Inv-loop μ-loop
-mul-out c = omega (arith, c .loop-test .taken)
-
 shared-slice-read-out-2 : tie.Need-shared-slice-read-out-2 Inv-loop μ-loop
 shared-slice-read-out-2 c =
     let i = c .before .before in
@@ -28,15 +25,10 @@ shared-slice-read-out-2 c =
     p .0 .inside (i .before .loop .k) (omega (arith, i .loop-test .taken, p .1))
 
 slice-write-out : tie.Need-slice-write-out Inv-loop μ-loop
-slice-write-out c =
-    let i = c .before .before in
-    omega (arith, i .loop-test .taken, filled-length (i .before .loop .inv), i .before .before .pre .2)
+slice-write-out c = search needs
 
 loop-again : tie.Need-loop-again Inv-loop μ-loop
 loop-again c = filled-step (c .before .before .before .loop .inv) (slice-write-out c) refl
-
-same-length : tie.Need-same-length Inv-loop μ-loop
-same-length c = filled-length (c .before .loop .inv)
 
 returns : tie.Need-returns Inv-loop μ-loop
 returns c =
@@ -50,12 +42,12 @@ pick-eight-spec =
     Inv-loop
     μ-loop
     loop-holds
-    mul-out
+    (λ c. search needs)
     (λ c. search needs)
     shared-slice-read-out-2
     slice-write-out
     (λ c. search needs)
     (λ c. search needs)
     loop-again
-    same-length
+    (λ c. search needs)
     returns)

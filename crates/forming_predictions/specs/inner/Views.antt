@@ -3,7 +3,7 @@
 use mathlib.Core.Path.{_≡_}
 use mathlib.Core.Bool.{Bool, true, false, _||_, cond}
 use mathlib.Core.List.{List}
-use Prim.Native.Nat.{ℕ, _+_, _*_, _≤_, _<_}
+use Prim.Native.Nat.{ℕ, _+_, _*_, _%_, _≤_, _<_}
 use lib.Dec.{eqb, leb}
 use lib.IntN.{ℤ, pos, negsuc, _+ℤ_}
 use lib.ListN.{length, getD}
@@ -87,7 +87,7 @@ pub record Readable (samples : List ℕ) (w first step count : ℕ) : Type 0 whe
 pub record Eights (n : ℕ) : Type 0 where
   pub some : 8 ≤ n
   pub wide : n ≤ 16
-  pub more : (n ≡ 8 → ⊥) → n ≡ 16
+  pub even : n % 8 ≡ 0
 
 -- steps to a neighbour, a block's sides, and a buffer that holds it
 pub record BlockFits (dx dy bw bh : ℕ) (o : List ℕ) : Type 0 where
@@ -113,7 +113,7 @@ pub record Inside (w count x y dx dy bw bh : ℕ) : Type 0 where
 pub record ColumnsFit (columns : List ℕ) (w : ℕ) : Type 0 where
   pub some : 8 ≤ length columns
   pub few : length columns ≤ 17
-  pub more : (length columns ≡ 8 → ⊥) → (length columns ≡ 9 → ⊥) → 16 ≤ length columns
+  pub even : length columns % 8 ≤ 1
   pub inside : (k : ℕ) → k < length columns → getD columns k 0 < w
 
 -- the columns and the room for samples that a block of bw columns may need
