@@ -29,6 +29,15 @@ pub row-of-block : (rule : ℤ → ℤ → ℕ) (x y : ℤ) (w r c : ℕ) → c 
     → rule (x +ℤ pos c) (y +ℤ pos r) ≡ rule (x +ℤ pos ((r * w + c) % w)) (y +ℤ pos ((r * w + c) / w))
 row-of-block rule x y w r c p = rw (digits-div r p, digits-mod r p)
 
+-- its length, and its sample k
+pub block-length : (w h : ℕ) (rule : ℤ → ℤ → ℕ) (x y : ℤ) → length (blockOf w h rule x y) ≡ w * h
+unfolding blockOf
+block-length w h rule x y = length-tab (w * h) _
+
+pub block-at : (w h : ℕ) (rule : ℤ → ℤ → ℕ) (x y : ℤ) (k : ℕ) → k < w * h → getD (blockOf w h rule x y) k 0 ≡ rule (x +ℤ pos (k % w)) (y +ℤ pos (k / w))
+unfolding blockOf
+block-at w h rule x y k p = getD-tab (w * h) _ k 0 p
+
 -- two rules that agree give one block
 pub block-ext : (w h : ℕ) (f g : ℤ → ℤ → ℕ) (x y : ℤ) → ((a b : ℤ) → f a b ≡ g a b) → blockOf w h f x y ≡ blockOf w h g x y
 unfolding blockOf

@@ -797,7 +797,8 @@ fn short_row(row: &[u8], below: &[u8], x: usize, dx: usize, out: &mut [u8])
     );
 }
 
-/// A row of any width: the first eight and the last eight, which overlap. The compiler knows that a short one is short, and unrolls it.
+/// A row of any width: the first eight and the last eight, which overlap; or fewer, in a loop that is unrolled since it is known to be
+/// short.
 fn any_row(row: &[u8], below: &[u8], x: usize, dx: usize, out: &mut [u8])
     requires { ⌜ RowFits (now row) (now below) x dx (length (now out)) × (length (now out) ≤ 16) ⌝ }
     ensures { λ r. ⌜ now (out .exit) ≡ tabulate (length (now (out .entry))) (fourOf (now (row .entry)) (now (below .entry)) x dx) ⌝ }
@@ -918,7 +919,7 @@ fn clamped_line(
     }
 }
 
-/// A block of any width that reaches past an edge. A small one is formed before the columns of a larger one are clamped.
+/// A block of any width that reaches past an edge, sample by sample: a small one takes less time than room for a copy of what it reads.
 fn clamped_lines(
     samples: &[u8],
     width: usize,
@@ -956,7 +957,7 @@ fn clamped_lines(
     }
 }
 
-/// A block of any width.
+/// A block whose width is neither 8 nor 16.
 fn form_other(
     samples: &[u8],
     width: usize,

@@ -31,7 +31,7 @@ start c = c .before .before .before
 -- the row lies in the buffer
 room : (c : tie.In-loop Inv-loop μ-loop)
     → c .before .loop .r * start (c .before) .args .block-width + start (c .before) .args .block-width ≤ length (c .before .loop .out)
-room c = rows-room (c .before .loop .inv) (c .loop-test .taken)
+room c = rows-room (c .before .loop .inv) (omega (arith, c .loop-test .taken))
 
 -- which line it is, in the caller's terms
 at : (c : tie.After-shifted Inv-loop μ-loop)
@@ -62,7 +62,7 @@ clamped-line-requires c κs =
       rw (at h, toZ-ofZ (s .fits .y)) (steps-on (i .before .loop .r) (p .2) (omega (arith, i .loop-test .taken, b .high))),
       b .right,
       b .down,
-      omega (arith, rows-part (i .before .loop .inv) (i .loop-test .taken), b .wide),
+      omega (arith, rows-part (i .before .loop .inv) (omega (arith, i .loop-test .taken)), b .wide),
     )
 
 loop-again : tie.Need-loop-again Inv-loop μ-loop
@@ -73,14 +73,14 @@ loop-again c =
     let i = h .before in
     let l = i .before in
     let a = start l .args in
-    rows-step (l .loop .inv) (i .loop-test .taken) (rw (at h) at (f .clamped-line .ensures))
+    rows-step (l .loop .inv) (omega (arith, i .loop-test .taken)) (rw (at h) at (f .clamped-line .ensures))
     (λ k q. row-of-block (λ (x y : ℤ). spread (viewRead (a .samples .now) (a .width) (a .first) (a .step) (a .count)) x y (a .dx) (a .dy)) (toZ w32 (ofZ w32 (a .x))) (toZ w32 (ofZ w32 (a .y))) (a .block-width) (l .loop .r) k q)
 
 returns : tie.Need-returns Inv-loop μ-loop
 unfolding blockOf
 returns c =
     let s = start (c .before) in
-    rw (toZ-ofZ (s .fits .x), toZ-ofZ (s .fits .y)) at (rows-all (c .before .loop .inv) (c .loop-test .left))
+    rw (toZ-ofZ (s .fits .x), toZ-ofZ (s .fits .y)) at (rows-all (c .before .loop .inv) (omega (arith, c .loop-test .left)))
 
 pub clamped-lines-spec : {M : Type 1} → statement M
 clamped-lines-spec =

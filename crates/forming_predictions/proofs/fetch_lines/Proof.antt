@@ -30,7 +30,7 @@ start c = c .before .before .before .before
 -- the row lies in the buffer
 room : (c : tie.In-loop Inv-loop μ-loop)
     → (let n = length (start (c .before) .args .columns .now) in c .before .loop .r * n + n ≤ length (c .before .loop .out))
-room c = rows-room (c .before .loop .inv) (c .loop-test .taken)
+room c = rows-room (c .before .loop .inv) (omega (arith, c .loop-test .taken))
 
 loop-holds : tie.Need-loop-holds Inv-loop μ-loop
 loop-holds c = rows-none _ _ _ _ (c .before .before .before .pre .4)
@@ -48,7 +48,7 @@ fetch-line-requires : tie.Need-fetch-line-requires Inv-loop μ-loop
 fetch-line-requires c κs =
     let i = c .before .before in
     let p = start (i .before) .pre in
-    (p .0, p .1, rows-part (i .before .loop .inv) (i .loop-test .taken))
+    (p .0, p .1, rows-part (i .before .loop .inv) (omega (arith, i .loop-test .taken)))
 
 loop-again : tie.Need-loop-again Inv-loop μ-loop
 loop-again c =
@@ -57,11 +57,11 @@ loop-again c =
     let i = h .before in
     let l = i .before in
     let line = back w32 (h .shifted .result) (h .shifted .ok) ∙ h .shifted .ensures in
-    rows-step (l .loop .inv) (i .loop-test .taken) (rw line at (f .fetch-line .ensures))
+    rows-step (l .loop .inv) (omega (arith, i .loop-test .taken)) (rw line at (f .fetch-line .ensures))
     (λ k q. rw (digits-div (l .loop .r) q, digits-mod (l .loop .r) q))
 
 returns : tie.Need-returns Inv-loop μ-loop
-returns c = rw (toZ-ofZ (start (c .before) .fits .y)) at (rows-all (c .before .loop .inv) (c .loop-test .left))
+returns c = rw (toZ-ofZ (start (c .before) .fits .y)) at (rows-all (c .before .loop .inv) (omega (arith, c .loop-test .left)))
 
 pub fetch-lines-spec : {M : Type 1} → statement M
 fetch-lines-spec =

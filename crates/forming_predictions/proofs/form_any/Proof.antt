@@ -25,7 +25,7 @@ start c = c .before .before .before
 -- the row lies in the buffer
 room : (c : tie.In-loop Inv-loop μ-loop)
     → c .before .loop .r * start (c .before) .args .block-width + start (c .before) .args .block-width ≤ length (c .before .loop .out)
-room c = rows-room (c .before .loop .inv) (c .loop-test .taken)
+room c = rows-room (c .before .loop .inv) (omega (arith, c .loop-test .taken))
 
 loop-holds : tie.Need-loop-holds Inv-loop μ-loop
 loop-holds c = rows-none _ _ _ _ (c .before .before .pre .1 .count)
@@ -37,7 +37,7 @@ any-line-requires : tie.Need-any-line-requires Inv-loop μ-loop
 any-line-requires c κs =
     let i = c .before in
     let s = start (i .before) in
-    let long = rows-part (i .before .loop .inv) (i .loop-test .taken) in (
+    let long = rows-part (i .before .loop .inv) (omega (arith, i .loop-test .taken)) in (
       s .pre .0,
       record { right = omega (arith, long, s .pre .2 .right); below = omega (arith, s .pre .2 .below, i .loop-test .taken) },
       s .pre .1 .right,
@@ -52,12 +52,12 @@ loop-again c =
     let i = f .before .before in
     let l = i .before in
     let a = start l .args in
-    rows-step (l .loop .inv) (i .loop-test .taken) (f .any-line .ensures)
+    rows-step (l .loop .inv) (omega (arith, i .loop-test .taken)) (f .any-line .ensures)
     (λ k h. row-of-block (λ (x y : ℤ). spread (viewRead (a .samples .now) (a .width) (a .first) (a .step) (a .count)) x y (a .dx) (a .dy)) (pos (a .x)) (pos (a .y)) (a .block-width) (l .loop .r) k h)
 
 returns : tie.Need-returns Inv-loop μ-loop
 unfolding blockOf
-returns c = rows-all (c .before .loop .inv) (c .loop-test .left)
+returns c = rows-all (c .before .loop .inv) (omega (arith, c .loop-test .left))
 
 pub form-any-spec : {M : Type 1} → statement M
 form-any-spec =
