@@ -51,6 +51,9 @@ pub fn rows(rng: &mut Rng) -> Vec<Row> {
     const LUMA: BlockSize = size(16, 16);
     const CHROMA: BlockSize = size(8, 8);
     const FIELD_LUMA: BlockSize = size(16, 8);
+    // Of no macroblock: the port forms them by another path.
+    const NARROW: BlockSize = size(4, 4);
+    const WIDE: BlockSize = size(12, 12);
     const PATTERNS: [HalfPattern; 4] = [
         HalfPattern::Integer,
         HalfPattern::HalfHorizontal,
@@ -68,6 +71,10 @@ pub fn rows(rng: &mut Rng) -> Vec<Row> {
         (Frame, CHROMA, Outside),
         (Field, FIELD_LUMA, Inside),
         (Field, FIELD_LUMA, Edges),
+        (Frame, NARROW, Inside),
+        (Frame, WIDE, Inside),
+        (Frame, NARROW, Edges),
+        (Frame, WIDE, Edges),
     ] {
         for pattern in PATTERNS {
             let what = format!(
