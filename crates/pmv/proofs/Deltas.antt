@@ -15,11 +15,12 @@ use mir.Val.{SFits, ofZ}
 use Rattle.laws.proofs.Signed.{le-yes}
 use Rattle.laws.proofs.Bounded.{Within}
 use Rattle.laws.proofs.Tests.{both, range}
-use Rattle.combine_predictions.specs.Refusals.{cause}
-use Rattle.forming_predictions.proofs.Refusals.{none-first, none-second, no-cause}
-use Rattle.pmv.specs.Refusals.{codeOutside}
+use Rattle.forming_predictions.proofs.Refusals.{none-first, no-cause}
 use Rattle.pmv.specs.Delta.{scale, isPlain, magnitude, withSign, delta, fCodeFits, codeFits, residualRefusal, codeRefusal, fCodeRefusal, deltaRefusal}
+use Rattle.pmv.specs.Answers.{deltaAnswer}
+use Rattle.pmv.specs.declared.component.ComputedDelta.the-variants as D
 use Rattle.pmv.specs.declared.component.MotionResidual.{MotionResidual}
+use Rattle.pmv.specs.declared.component.MotionResidual.the-variants.{Absent}
 
 -- ---- f_code and f
 pub f-code-range : (k : ℕ) → fCodeRefusal k ≡ 0 → (1 ≤ k) × (k ≤ 9)
@@ -56,6 +57,10 @@ pub plain-bits : (f : ℕ) (z : ℤ) → SFits w32 z → (eqb f 1 || eqb (ofZ w3
 unfolding isPlain
 plain-bits f z h = rw (zero-bits z h)
 
+pub plain-f : (f : ℕ) (z : ℤ) → f ≡ 1 → isPlain f z ≡ true
+unfolding isPlain
+plain-f f z e = rw e
+
 -- ---- delta
 pub delta-plain : (f : ℕ) (z : ℤ) (n : ℕ) → isPlain f z ≡ true → delta f z n ≡ z
 unfolding delta
@@ -64,6 +69,10 @@ delta-plain f z n e = rw e
 pub delta-scaled : (f : ℕ) (z : ℤ) (n : ℕ) → isPlain f z ≡ false → delta f z n ≡ withSign z (magnitude f z n)
 unfolding delta
 delta-scaled f z n e = rw e
+
+-- a plain code without a residual
+pub without-plain : (f : ℕ) (z : ℤ) → isPlain f z ≡ true → D.Delta z ≡ deltaAnswer (residualRefusal (isPlain f z) Absent) (delta f z 0)
+without-plain f z e = rw (delta-plain f z 0 e, e)
 
 or-none : (a b : Bool) → (a || b) ≡ false → b ≡ false
 or-none true b e = let z : _≡_ {A = ℕ} 0 1 = cc in absurd (omega arith)
@@ -87,13 +96,6 @@ module _ (f : ℕ) (z : ℤ) (r : MotionResidual) where
   unfolding codeRefusal
   refused-residual e = rw e
 
-  code-accepted : codeRefusal f z r ≡ 0 → Within 16 z
-  unfolding codeRefusal
-  code-accepted e =
-      code-within z
-      (no-cause (codeFits z) 2 (omega arith)
-      (none-first (cause (not (codeFits z)) codeOutside) (residualRefusal (isPlain f z) r) e))
-
 module _ (k : ℕ) (z : ℤ) (r : MotionResidual) where
   pub refused-1 : fCodeFits k ≡ false → 1 ≡ deltaRefusal k z r
   unfolding deltaRefusal
@@ -103,11 +105,11 @@ module _ (k : ℕ) (z : ℤ) (r : MotionResidual) where
   unfolding deltaRefusal
   refused-code e = rw e
 
-  -- where none is
+  -- where neither is given, the residual decides
+  pub accepted-both : fCodeFits k ≡ true → codeFits z ≡ true → residualRefusal (isPlain (scale k) z) r ≡ deltaRefusal k z r
+  accepted-both e g = refused-residual (scale k) z r g ∙ refused-code e
+
+  -- where no number is
   pub accepted-f-code : deltaRefusal k z r ≡ 0 → fCodeRefusal k ≡ 0
   unfolding deltaRefusal
   accepted-f-code e = none-first (fCodeRefusal k) (codeRefusal (scale k) z r) e
-
-  pub accepted-code : deltaRefusal k z r ≡ 0 → Within 16 z
-  unfolding deltaRefusal
-  accepted-code e = code-accepted (scale k) z r (none-second (fCodeRefusal k) (codeRefusal (scale k) z r) e)

@@ -3,11 +3,12 @@ use crate::kinds::Component;
 use crate::kinds::MvFormat;
 use crate::kinds::PictureStructure;
 ghost use mathlib.Core.Path.{_≡_};
+ghost use mathlib.Core.Bool.{false};
 ghost use Prim.Native.Nat.{_+_, _*_, _≤_, _<_};
 ghost use lib.IntN.{ℤ, natAbs, _+ℤ_};
 ghost use Rattle.laws.proofs.Bounded.{Within};
 ghost use Rattle.forming_predictions.specs.SampleAnswers.{valueUnless};
-ghost use Rattle.pmv.specs.Delta.{scale, isPlain, withSign, delta, residualValue, fCodeFits, codeFits, residualRefusal, codeRefusal, fCodeRefusal, deltaRefusal};
+ghost use Rattle.pmv.specs.Delta.{scale, isPlain, withSign, delta, fCodeFits, codeFits, residualRefusal, fCodeRefusal, deltaRefusal};
 ghost use Rattle.pmv.specs.Component.{rangeOf, inRange, halves, prediction, raised, lowered, vectorOf, newPredictor, fromDelta, fromDeltaRefusal, deltaOf, componentOf, componentRefusal};
 ghost use Rattle.pmv.specs.Answers.{deltaAnswer, deltaNumber, deltaValue, rangeAnswer, rangeNumber, rangeValue, reconstructedAnswer, reconstructedNumber, reconstructedValue};
 ghost use Rattle.pmv.specs.inner.Bounds.{Small};
@@ -93,43 +94,6 @@ fn is_plain(f: u32, motion_code: i32) -> bool
     (f == 1) | (motion_code == 0)
 }
 
-fn residual_refusal(plain: bool, motion_residual: MotionResidual) -> u8
-    ensures { λ r. ⌜ r ≡ residualRefusal plain «motion_residual» ⌝ }
-{
-    match motion_residual {
-        MotionResidual::Absent => {
-            if plain {
-                return 0;
-            }
-            RESIDUAL_MISSING
-        }
-        MotionResidual::Present(_) => {
-            if plain {
-                return RESIDUAL_FORBIDDEN;
-            }
-            0
-        }
-    }
-}
-
-fn code_refusal(motion_code: i32, motion_residual: MotionResidual, f: u32) -> u8
-    ensures { λ r. ⌜ r ≡ codeRefusal f «motion_code» «motion_residual» ⌝ }
-{
-    if !code_fits(motion_code) {
-        return CODE_OUTSIDE;
-    }
-    residual_refusal(is_plain(f, motion_code), motion_residual)
-}
-
-fn delta_refusal(motion_code: i32, motion_residual: MotionResidual, f_code: u8) -> u8
-    ensures { λ r. ⌜ r ≡ deltaRefusal «f_code» «motion_code» «motion_residual» ⌝ }
-{
-    if !f_code_fits(f_code) {
-        return F_CODE_OUTSIDE;
-    }
-    code_refusal(motion_code, motion_residual, scale_of(f_code))
-}
-
 /// Abs(motion_code).
 fn absolute(motion_code: i32) -> u32
     requires { ⌜ Within 16 «motion_code» ⌝ }
@@ -152,24 +116,36 @@ fn with_sign(motion_code: i32, m: u32) -> i32
     d
 }
 
-fn residual_value(motion_residual: MotionResidual) -> u32
-    ensures { λ r. ⌜ (r ≡ residualValue «motion_residual») × (r ≤ 255) ⌝ }
-{
-    match motion_residual {
-        MotionResidual::Absent => 0,
-        MotionResidual::Present(n) => n as u32,
-    }
-}
-
-/// delta, where nothing is refused.
-fn delta_of(motion_code: i32, residual: u32, f: u32) -> i32
-    requires { ⌜ Within 16 «motion_code» × (residual ≤ 255) × (1 ≤ f) × (f ≤ 256) ⌝ }
+/// delta of a code that is not plain.
+fn scaled_delta(motion_code: i32, residual: u32, f: u32) -> i32
+    requires { ⌜ Within 16 «motion_code» × (residual ≤ 255) × (f ≤ 256) × (isPlain f «motion_code» ≡ false) ⌝ }
     ensures { λ r. ⌜ r ≡ delta f «motion_code» residual ⌝ }
 {
-    if is_plain(f, motion_code) {
-        return motion_code;
-    }
     with_sign(motion_code, (absolute(motion_code) - 1) * f + residual + 1)
+}
+
+/// delta where there is no residual. f is asked for first: where it is 1, no jump depends on the code.
+fn delta_without(motion_code: i32, f: u32) -> ComputedDelta
+    ensures { λ r. ⌜ r ≡ deltaAnswer (residualRefusal (isPlain f «motion_code») MotionResidual.Absent) (delta f «motion_code» 0) ⌝ }
+{
+    if f == 1 {
+        return ComputedDelta::Delta(motion_code);
+    }
+    if motion_code == 0 {
+        return ComputedDelta::Delta(motion_code);
+    }
+    ComputedDelta::Refused(RESIDUAL_MISSING)
+}
+
+/// delta where there is one.
+fn delta_with(motion_code: i32, residual: u8, f: u32) -> ComputedDelta
+    requires { ⌜ Within 16 «motion_code» × (f ≤ 256) ⌝ }
+    ensures { λ r. ⌜ r ≡ deltaAnswer (residualRefusal (isPlain f «motion_code») (MotionResidual.Present residual)) (delta f «motion_code» residual) ⌝ }
+{
+    if is_plain(f, motion_code) {
+        return ComputedDelta::Refused(RESIDUAL_FORBIDDEN);
+    }
+    ComputedDelta::Delta(scaled_delta(motion_code, residual as u32, f))
 }
 
 /// How far a component is from its prediction, in half samples.
@@ -178,15 +154,17 @@ pub fn compute_delta(motion_code: i32, motion_residual: MotionResidual, f_code: 
     ensures number { λ r. ⌜ deltaNumber r ≡ deltaRefusal «f_code» «motion_code» «motion_residual» ⌝ }
     ensures value { λ r. ⌜ deltaValue r ≡ valueUnless (deltaNumber r) (deltaOf «f_code» «motion_code» «motion_residual») ⌝ }
 {
-    let number = delta_refusal(motion_code, motion_residual, f_code);
-    if number != 0 {
-        return ComputedDelta::Refused(number);
+    if !f_code_fits(f_code) {
+        return ComputedDelta::Refused(F_CODE_OUTSIDE);
     }
-    ComputedDelta::Delta(delta_of(
-        motion_code,
-        residual_value(motion_residual),
-        scale_of(f_code),
-    ))
+    if !code_fits(motion_code) {
+        return ComputedDelta::Refused(CODE_OUTSIDE);
+    }
+    let f = scale_of(f_code);
+    match motion_residual {
+        MotionResidual::Absent => delta_without(motion_code, f),
+        MotionResidual::Present(residual) => delta_with(motion_code, residual, f),
+    }
 }
 
 // ---- range
