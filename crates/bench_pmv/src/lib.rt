@@ -1,5 +1,6 @@
 //! The update and the vector call behind C entry points, for the benchmark alone: no part of the card's interface.
 use pmv::component::MotionResidual;
+use pmv::kinds::Component;
 use pmv::kinds::Direction;
 use pmv::kinds::MotionType;
 use pmv::kinds::MvFormat;
@@ -7,6 +8,7 @@ use pmv::kinds::PictureStructure;
 use pmv::kinds::PredictionType;
 use pmv::kinds::VectorIndex;
 use pmv::predictors::Pmv;
+use pmv::predictors::PredictorPair;
 use pmv::update::PmvUpdateContext;
 use pmv::update::Updated;
 use pmv::vector::MotionVector;
@@ -170,25 +172,31 @@ pub extern "C" fn fozdrik_bench_vector(
     ensures buffer { λ n. ⌜ now (predictors .exit) ≡ reconstructed (pmvOf (now (predictors .entry))) (vectorOf «code_h» «residual_h» «code_v» «residual_v») (indexOf r) (directionOf s) «f_code_h» «f_code_v» (formatOf format) (structureOf structure) ported .pmv .values ⌝ }
     ensures components { λ n. ⌜ now (vector .exit) ≡ componentsOr (now (vector .entry)) (reconstructed (pmvOf (now (predictors .entry))) (vectorOf «code_h» «residual_h» «code_v» «residual_v») (indexOf r) (directionOf s) «f_code_h» «f_code_v» (formatOf format) (structureOf structure) ported .answer) ⌝ }
 {
-    let values = *predictors;
-    let decoded = pmv::vector::reconstructed_motion_vector(
-        Pmv { values: values },
+    let index = index_of(r);
+    let direction = direction_of(s);
+    let h = pmv::predictors::place_of(index, direction, Component::Horizontal);
+    let v = pmv::predictors::place_of(index, direction, Component::Vertical);
+    let decoded = pmv::vector::reconstructed_pair(
+        PredictorPair {
+            horizontal: predictors[h],
+            vertical: predictors[v],
+        },
         MotionVector {
             motion_code_horiz: code_h,
             motion_residual_horiz: residual_of(residual_h),
             motion_code_vert: code_v,
             motion_residual_vert: residual_of(residual_v),
         },
-        index_of(r),
-        direction_of(s),
         f_code_h,
         f_code_v,
         format_of(format),
         structure_of(structure),
     );
-    let kept = decoded.pmv;
-    let after = kept.values;
-    *predictors = after;
+    let after = decoded.predictors;
+    let after_h = after.horizontal;
+    let after_v = after.vertical;
+    predictors[h] = after_h;
+    predictors[v] = after_v;
     let answer = decoded.answer;
     write_vector(answer, vector);
     vector_code(answer)

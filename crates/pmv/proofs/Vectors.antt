@@ -6,14 +6,13 @@ use Prim.Native.Nat.{ℕ, zero, suc}
 use lib.IntN.{ℤ}
 use Rattle.combine_predictions.specs.Refusals.{orElse, unlessRefused}
 use Rattle.forming_predictions.specs.SampleAnswers.{valueUnless}
-use Rattle.pmv.specs.Predictors.{stored}
+use Rattle.pmv.specs.Predictors.{stored, pairOf}
 use Rattle.pmv.specs.Answers.{reconstructedAnswer, reconstructedNumber, reconstructedValue, vectorAnswer, vectorNumber, vectorValue}
-use Rattle.pmv.specs.Vector.{ported, part, partRefusal, decoded, horizontalRefusal, verticalRefusal, vectorRefusal, components, horizontalStored, bothStored, reconstructed}
+use Rattle.pmv.specs.Vector.{ported, part, partRefusal, decoded, horizontalRefusal, verticalRefusal, vectorRefusal, components, reconstructedPair, reconstructed}
 use Rattle.pmv.specs.inner.Steps.{joined}
 use Rattle.pmv.specs.declared.kinds.VectorIndex.{VectorIndex}
 use Rattle.pmv.specs.declared.kinds.Direction.{Direction}
 use Rattle.pmv.specs.declared.kinds.Component.{Component}
-use Rattle.pmv.specs.declared.kinds.Component.the-variants.{Horizontal}
 use Rattle.pmv.specs.declared.kinds.MvFormat.{MvFormat}
 use Rattle.pmv.specs.declared.kinds.PictureStructure.{PictureStructure}
 use Rattle.pmv.specs.declared.component.MotionResidual.{MotionResidual}
@@ -21,10 +20,12 @@ use Rattle.pmv.specs.declared.component.ReconstructedComponent.{Reconstr
 use Rattle.pmv.specs.declared.component.Reconstructed.{Reconstructed}
 use Rattle.pmv.specs.declared.component.Reconstructed.the-variants as C
 use Rattle.pmv.specs.declared.predictors.Pmv.{Pmv}
+use Rattle.pmv.specs.declared.predictors.PredictorPair.{PredictorPair}
 use Rattle.pmv.specs.declared.vector.MotionVector.{MotionVector}
 use Rattle.pmv.specs.declared.vector.DecodedComponent.{DecodedComponent}
 use Rattle.pmv.specs.declared.vector.VectorComponents.{VectorComponents}
 use Rattle.pmv.specs.declared.vector.ReconstructedVector.the-variants as Vec
+use Rattle.pmv.specs.declared.vector.DecodedPair.{DecodedPair}
 use Rattle.pmv.specs.declared.vector.DecodedVector.{DecodedVector}
 use Rattle.pmv.proofs.Answers.{written, kept, component-all, component-refused, component-given, vector-promised}
 
@@ -62,57 +63,79 @@ decoded-all d p r s t k z m h e =
     let a = component-all (d .answer) (partRefusal p r s t k z m h ported) (part p r s t k z m h) (ap (λ (x : DecodedComponent). x .answer) e) in
     (e, (a .1 .0, a .1 .1))
 
--- ---- a vector, by the arms of the code's match
-module _ (p : Pmv) (mv : MotionVector) (r : VectorIndex) (s : Direction) (fh fv : ℕ) (m : MvFormat) (u : PictureStructure) where
+-- ---- a vector against its two predictors, by the arms of the code's match
+module _ (p : PredictorPair) (mv : MotionVector) (fh fv : ℕ) (m : MvFormat) (u : PictureStructure) where
   abbrev nh : ℕ
-  nh = horizontalRefusal p mv r s fh fv m u ported
+  nh = horizontalRefusal p mv fh fv m u ported
 
   abbrev nv : ℕ
-  nv = verticalRefusal p mv r s fh fv m u ported
+  nv = verticalRefusal p mv fh fv m u ported
 
   abbrev cs : VectorComponents
-  cs = components p mv r s fh fv m u
+  cs = components p mv fh fv m u
 
   -- the horizontal component is refused
   pub after-refused : (k : ℕ) → C.Refused k ≡ reconstructedAnswer nh (cs .horizontal)
-      → _≡_ {A = DecodedVector} (record { answer = Vec.Refused k; pmv = p }) (reconstructed p mv r s fh fv m u ported)
-  unfolding reconstructed
+      → _≡_ {A = DecodedPair} (record { answer = Vec.Refused k; predictors = p }) (reconstructedPair p mv fh fv m u ported)
+  unfolding reconstructedPair
   after-refused k e =
       let h = component-refused k nh (cs .horizontal) e in
       at nh (h .0) (h .1)
     where
       at : (n : ℕ) → n ≡ k → (n ≡ 0 → ⊥)
-          → _≡_ {A = DecodedVector} (record { answer = Vec.Refused k; pmv = p })
+          → _≡_ {A = DecodedPair} (record { answer = Vec.Refused k; predictors = p })
           (record {
             answer = vectorAnswer (orElse n nv) cs;
-            pmv = unlessRefused n (unlessRefused nv (bothStored p mv r s fh fv m u) (horizontalStored p mv r s fh fv m u)) p;
+            predictors = record {
+              horizontal = unlessRefused n (cs .horizontal .«new_pmv») (p .horizontal);
+              vertical = unlessRefused (orElse n nv) (cs .vertical .«new_pmv») (p .vertical);
+            };
           })
       at zero q h = absurd (h refl)
       at (suc n) q h = rw (← q)
 
   -- it is accepted, and stored
-  pub after-given : (x : ReconstructedComponent) (w : Pmv) (a : Reconstructed)
+  pub after-given : (x : ReconstructedComponent) (w : PredictorPair) (a : Reconstructed)
       → C.Component x ≡ reconstructedAnswer nh (cs .horizontal)
-      → w ≡ stored p r s Horizontal (x .«new_pmv»)
+      → w ≡ record { horizontal = x .«new_pmv»; vertical = p .vertical }
       → a ≡ reconstructedAnswer nv (cs .vertical)
-      → joined x a r s w ≡ reconstructed p mv r s fh fv m u ported
-  unfolding reconstructed
+      → joined w x a ≡ reconstructedPair p mv fh fv m u ported
+  unfolding reconstructedPair
   after-given x w a e f g =
       let h = component-given nh (cs .horizontal) x e in
-      let q = f ∙ ap (λ (y : ReconstructedComponent). stored p r s Horizontal (y .«new_pmv»)) (h .1) in
-      rw (g, q, h .0, h .1) (at nv)
+      rw (g, f, h .0, h .1) (at nv)
     where
       at : (n : ℕ)
-          → joined (cs .horizontal) (reconstructedAnswer n (cs .vertical)) r s (horizontalStored p mv r s fh fv m u)
-          ≡ record { answer = vectorAnswer n cs; pmv = unlessRefused n (bothStored p mv r s fh fv m u) (horizontalStored p mv r s fh fv m u) }
+          → joined (record { horizontal = cs .horizontal .«new_pmv»; vertical = p .vertical }) (cs .horizontal) (reconstructedAnswer n (cs .vertical))
+          ≡ record {
+            answer = vectorAnswer n cs;
+            predictors = record {
+              horizontal = cs .horizontal .«new_pmv»;
+              vertical = unlessRefused n (cs .vertical .«new_pmv») (p .vertical);
+            };
+          }
       at zero = refl
       at (suc n) = refl
 
   -- the named promises of a vector, from the whole
+  pub pair-all : (d : DecodedPair)
+      → d ≡ reconstructedPair p mv fh fv m u ported
+      → (d ≡ reconstructedPair p mv fh fv m u ported)
+      × ((vectorNumber (d .answer) ≡ vectorRefusal p mv fh fv m u ported)
+      × (vectorValue (d .answer) ≡ valueUnless (vectorNumber (d .answer)) cs))
+  unfolding reconstructedPair
+  pair-all d e = (e, vector-promised (d .answer) (orElse nh nv) cs (ap (λ (x : DecodedPair). x .answer) e))
+
+-- ---- and against the record
+module _ (p : Pmv) (mv : MotionVector) (r : VectorIndex) (s : Direction) (fh fv : ℕ) (m : MvFormat) (u : PictureStructure) where
   pub vector-all : (d : DecodedVector)
       → d ≡ reconstructed p mv r s fh fv m u ported
       → (d ≡ reconstructed p mv r s fh fv m u ported)
-      × ((vectorNumber (d .answer) ≡ vectorRefusal p mv r s fh fv m u ported)
-      × (vectorValue (d .answer) ≡ valueUnless (vectorNumber (d .answer)) cs))
-  unfolding reconstructed
-  vector-all d e = (e, vector-promised (d .answer) (orElse nh nv) cs (ap (λ (x : DecodedVector). x .answer) e))
+      × ((vectorNumber (d .answer) ≡ vectorRefusal (pairOf p r s) mv fh fv m u ported)
+      × (vectorValue (d .answer) ≡ valueUnless (vectorNumber (d .answer)) (components (pairOf p r s) mv fh fv m u)))
+  unfolding reconstructedPair reconstructed
+  vector-all d e = (
+    e,
+    vector-promised (d .answer) (vectorRefusal (pairOf p r s) mv fh fv m u ported) (components (pairOf p r s) mv fh fv m u)
+        (ap (λ (x : DecodedVector). x .answer) e),
+  )

@@ -10,6 +10,7 @@ use Rattle.pmv.specs.declared.kinds.Direction.{Direction}
 use Rattle.pmv.specs.declared.kinds.Component.{Component}
 use Rattle.pmv.specs.declared.kinds.Component.the-variants.{Horizontal, Vertical}
 use Rattle.pmv.specs.declared.predictors.Pmv.{Pmv}
+use Rattle.pmv.specs.declared.predictors.PredictorPair.{PredictorPair}
 
 -- where PMV[r][s][t] lies among the eight
 abbrev pub pmvIndex : VectorIndex → Direction → Component → ℕ
@@ -23,12 +24,18 @@ predictor pmv r s t = getD (pmv .values) (pmvIndex r s t) (pos 0)
 abbrev pub stored : Pmv → VectorIndex → Direction → Component → ℤ → Pmv
 stored pmv r s t value = record { values = set (pmv .values) (pmvIndex r s t) value }
 
+-- PMV[r][s][1:0]
+abbrev pub pairOf : Pmv → VectorIndex → Direction → PredictorPair
+pairOf pmv r s = record { horizontal = predictor pmv r s Horizontal; vertical = predictor pmv r s Vertical }
+
+-- PMV[r][s][1:0] = pair
+abbrev pub pairStored : Pmv → VectorIndex → Direction → PredictorPair → Pmv
+pairStored pmv r s pair = stored (stored pmv r s Horizontal (pair .horizontal)) r s Vertical (pair .vertical)
+
 -- 7.6.3.4: all eight are zero
 abbrev pub zeroed : Pmv
 zeroed = record { values = pos 0 ∷ pos 0 ∷ pos 0 ∷ pos 0 ∷ pos 0 ∷ pos 0 ∷ pos 0 ∷ pos 0 ∷ [] }
 
 -- PMV[1][s][1:0] = PMV[0][s][1:0]
 abbrev pub firstCopied : Direction → Pmv → Pmv
-firstCopied s pmv =
-    stored (stored pmv Second s Horizontal (predictor pmv First s Horizontal))
-    Second s Vertical (predictor pmv First s Vertical)
+firstCopied s pmv = pairStored pmv Second s (pairOf pmv First s)

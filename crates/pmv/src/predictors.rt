@@ -6,14 +6,21 @@ ghost use mathlib.Core.Path.{_≡_};
 ghost use mathlib.Core.Bool.{cond};
 ghost use Prim.Native.Nat.{_<_};
 ghost use lib.Dec.{eqb};
-ghost use Rattle.pmv.specs.Predictors.{pmvIndex, predictor, stored, zeroed, firstCopied};
+ghost use Rattle.pmv.specs.Predictors.{pmvIndex, predictor, stored, pairOf, pairStored, zeroed, firstCopied};
 
 /// The eight predictors in half samples: PMV\[r\]\[s\]\[t\] is at 4r + 2s + t.
 pub struct Pmv {
     pub values: [i32; 8],
 }
 
-fn place_of(r: VectorIndex, s: Direction, t: Component) -> usize
+/// PMV\[r\]\[s\]\[1:0\]: the two predictors of one vector.
+pub struct PredictorPair {
+    pub horizontal: i32,
+    pub vertical: i32,
+}
+
+/// Where PMV\[r\]\[s\]\[t\] is among the eight.
+pub fn place_of(r: VectorIndex, s: Direction, t: Component) -> usize
     ensures { λ k. ⌜ (k ≡ pmvIndex r s t) × (k < 8) ⌝ }
 {
     r.index() * 4 + s.index() * 2 + t.index()
@@ -73,13 +80,29 @@ impl Pmv {
         }
     }
 
+    /// PMV\[r\]\[s\]\[1:0\].
+    pub fn pair(self, r: VectorIndex, s: Direction) -> PredictorPair
+        ensures { λ p. ⌜ p ≡ pairOf self r s ⌝ }
+    {
+        PredictorPair {
+            horizontal: self.get(r, s, Component::Horizontal),
+            vertical: self.get(r, s, Component::Vertical),
+        }
+    }
+
+    /// The predictors with `pair` at PMV\[r\]\[s\]\[1:0\].
+    pub fn with_pair(self, r: VectorIndex, s: Direction, pair: PredictorPair) -> Self
+        ensures { λ p. ⌜ p ≡ pairStored self r s pair ⌝ }
+    {
+        let p = self.with(r, s, Component::Horizontal, pair.horizontal);
+        p.with(r, s, Component::Vertical, pair.vertical)
+    }
+
     /// The predictors with the first vector's of a direction copied to the second's.
     pub fn with_first_copied(self, s: Direction) -> Self
         ensures { λ p. ⌜ p ≡ firstCopied s self ⌝ }
     {
-        let h = self.get(VectorIndex::First, s, Component::Horizontal);
-        let v = self.get(VectorIndex::First, s, Component::Vertical);
-        let p = self.with(VectorIndex::Second, s, Component::Horizontal, h);
-        p.with(VectorIndex::Second, s, Component::Vertical, v)
+        let first = self.pair(VectorIndex::First, s);
+        self.with_pair(VectorIndex::Second, s, first)
     }
 }

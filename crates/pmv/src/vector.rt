@@ -9,11 +9,13 @@ use crate::kinds::MvFormat;
 use crate::kinds::PictureStructure;
 use crate::kinds::VectorIndex;
 use crate::predictors::Pmv;
+use crate::predictors::PredictorPair;
 ghost use mathlib.Core.Path.{_≡_};
 ghost use mathlib.Core.Bool.{false};
 ghost use Rattle.forming_predictions.specs.SampleAnswers.{valueUnless};
 ghost use Rattle.pmv.specs.Component.{halves};
-ghost use Rattle.pmv.specs.Vector.{ported, partRefusal, part, decoded, reconstructed, vectorRefusal, components};
+ghost use Rattle.pmv.specs.Predictors.{pairOf};
+ghost use Rattle.pmv.specs.Vector.{ported, partRefusal, part, decoded, vectorRefusal, components, reconstructedPair, reconstructed};
 ghost use Rattle.pmv.specs.inner.Steps.{joined};
 ghost use Rattle.pmv.specs.Answers.{reconstructedNumber, reconstructedValue, vectorNumber, vectorValue};
 
@@ -43,7 +45,13 @@ pub enum ReconstructedVector {
     Refused(u8),
 }
 
-/// The answer for a vector, and the predictors after it.
+/// The answer for a vector, and its two predictors after it.
+pub struct DecodedPair {
+    pub answer: ReconstructedVector,
+    pub predictors: PredictorPair,
+}
+
+/// The answer for a vector, and all predictors after it.
 pub struct DecodedVector {
     pub answer: ReconstructedVector,
     pub pmv: Pmv,
@@ -116,33 +124,79 @@ pub fn decoded_motion_vector(
 
 /// The vertical component's answer, after the horizontal component was stored.
 fn with_vertical(
-    pmv: Pmv,
+    kept: PredictorPair,
     horizontal: ReconstructedComponent,
     vertical: Reconstructed,
-    r: VectorIndex,
-    s: Direction,
-) -> DecodedVector
-    ensures { λ d. ⌜ d ≡ joined horizontal vertical r s pmv ⌝ }
+) -> DecodedPair
+    ensures { λ d. ⌜ d ≡ joined kept horizontal vertical ⌝ }
 {
     match vertical {
-        Reconstructed::Refused(number) => DecodedVector {
+        Reconstructed::Refused(number) => DecodedPair {
             answer: ReconstructedVector::Refused(number),
-            pmv: pmv,
+            predictors: kept,
+        },
+        Reconstructed::Component(c) => DecodedPair {
+            answer: ReconstructedVector::Components(VectorComponents {
+                horizontal: horizontal,
+                vertical: c,
+            }),
+            predictors: PredictorPair {
+                horizontal: kept.horizontal,
+                vertical: c.new_pmv,
+            },
+        },
+    }
+}
+
+/// A vector against its two predictors: the horizontal component, then the vertical one. Where the vertical one is refused, the new
+/// horizontal predictor remains. A caller that holds the record elsewhere need copy no more of it than these two.
+pub fn reconstructed_pair(
+    prior: PredictorPair,
+    mv: MotionVector,
+    f_code_horiz: u8,
+    f_code_vert: u8,
+    mv_format: MvFormat,
+    picture: PictureStructure,
+) -> DecodedPair
+    ensures reconstruction { λ d. ⌜ d ≡ reconstructedPair prior mv «f_code_horiz» «f_code_vert» «mv_format» picture ported ⌝ }
+    ensures number { λ d. ⌜ vectorNumber (d .answer) ≡ vectorRefusal prior mv «f_code_horiz» «f_code_vert» «mv_format» picture ported ⌝ }
+    ensures value { λ d. ⌜ vectorValue (d .answer) ≡ valueUnless (vectorNumber (d .answer)) (components prior mv «f_code_horiz» «f_code_vert» «mv_format» picture) ⌝ }
+{
+    let residual_horiz = mv.motion_residual_horiz;
+    let residual_vert = mv.motion_residual_vert;
+    match reconstruct_component(
+        mv.motion_code_horiz,
+        residual_horiz,
+        f_code_horiz,
+        prior.horizontal,
+        mv_format,
+        picture,
+        Component::Horizontal,
+    ) {
+        Reconstructed::Refused(number) => DecodedPair {
+            answer: ReconstructedVector::Refused(number),
+            predictors: prior,
         },
         Reconstructed::Component(c) => {
-            let kept = pmv.with(r, s, Component::Vertical, c.new_pmv);
-            DecodedVector {
-                answer: ReconstructedVector::Components(VectorComponents {
-                    horizontal: horizontal,
-                    vertical: c,
-                }),
-                pmv: kept,
-            }
+            let kept = PredictorPair {
+                horizontal: c.new_pmv,
+                vertical: prior.vertical,
+            };
+            let vertical = reconstruct_component(
+                mv.motion_code_vert,
+                residual_vert,
+                f_code_vert,
+                prior.vertical,
+                mv_format,
+                picture,
+                Component::Vertical,
+            );
+            with_vertical(kept, c, vertical)
         }
     }
 }
 
-/// A vector: the horizontal component, then the vertical one. Where the vertical one is refused, the new horizontal predictor remains.
+/// A vector against the record.
 pub fn reconstructed_motion_vector(
     pmv: Pmv,
     mv: MotionVector,
@@ -154,38 +208,15 @@ pub fn reconstructed_motion_vector(
     picture: PictureStructure,
 ) -> DecodedVector
     ensures reconstruction { λ d. ⌜ d ≡ reconstructed pmv mv r s «f_code_horiz» «f_code_vert» «mv_format» picture ported ⌝ }
-    ensures number { λ d. ⌜ vectorNumber (d .answer) ≡ vectorRefusal pmv mv r s «f_code_horiz» «f_code_vert» «mv_format» picture ported ⌝ }
-    ensures value { λ d. ⌜ vectorValue (d .answer) ≡ valueUnless (vectorNumber (d .answer)) (components pmv mv r s «f_code_horiz» «f_code_vert» «mv_format» picture) ⌝ }
+    ensures number { λ d. ⌜ vectorNumber (d .answer) ≡ vectorRefusal (pairOf pmv r s) mv «f_code_horiz» «f_code_vert» «mv_format» picture ported ⌝ }
+    ensures value { λ d. ⌜ vectorValue (d .answer) ≡ valueUnless (vectorNumber (d .answer)) (components (pairOf pmv r s) mv «f_code_horiz» «f_code_vert» «mv_format» picture) ⌝ }
 {
-    let prior_horiz = pmv.get(r, s, Component::Horizontal);
-    let prior_vert = pmv.get(r, s, Component::Vertical);
-    let residual_horiz = mv.motion_residual_horiz;
-    let residual_vert = mv.motion_residual_vert;
-    match reconstruct_component(
-        mv.motion_code_horiz,
-        residual_horiz,
-        f_code_horiz,
-        prior_horiz,
-        mv_format,
-        picture,
-        Component::Horizontal,
-    ) {
-        Reconstructed::Refused(number) => DecodedVector {
-            answer: ReconstructedVector::Refused(number),
-            pmv: pmv,
-        },
-        Reconstructed::Component(c) => {
-            let kept = pmv.with(r, s, Component::Horizontal, c.new_pmv);
-            let vertical = reconstruct_component(
-                mv.motion_code_vert,
-                residual_vert,
-                f_code_vert,
-                prior_vert,
-                mv_format,
-                picture,
-                Component::Vertical,
-            );
-            with_vertical(kept, c, vertical, r, s)
-        }
+    let prior = pmv.pair(r, s);
+    let decoded = reconstructed_pair(prior, mv, f_code_horiz, f_code_vert, mv_format, picture);
+    let after = decoded.predictors;
+    let answer = decoded.answer;
+    DecodedVector {
+        answer: answer,
+        pmv: pmv.with_pair(r, s, after),
     }
 }

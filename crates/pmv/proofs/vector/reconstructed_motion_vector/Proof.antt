@@ -1,101 +1,33 @@
 -- `reconstructed_motion_vector` meets its contract.
 -- Assumes nothing.
-use mathlib.Core.Path.{_≡_, sym, _∙_}
-use mir.Syntax.{w32}
-use mir.Val.{SFits}
-use mir.Facts.{toZ-ofZ}
-use Rattle.laws.proofs.Bits.{back}
-use Rattle.pmv.specs.Vector.{ported, horizontalRefusal, verticalRefusal, components}
-use Rattle.pmv.specs.Answers.{reconstructedAnswer}
-use Rattle.pmv.proofs.Vectors.{after-refused, after-given, vector-all}
+use mathlib.Core.Path.{ap, _∙_}
+use Rattle.pmv.specs.Predictors.{pairStored}
+use Rattle.pmv.specs.Vector.{reconstructed}
+use Rattle.pmv.specs.declared.vector.DecodedPair.{DecodedPair}
+use Rattle.pmv.proofs.Vectors.{vector-all}
 use borrow.Author.Needs.{needs}
 use Rattle.pmv.proofs.vector.reconstructed_motion_vector.Statement.{statement}
 use Rattle.pmv.proofs.vector.reconstructed_motion_vector.Tie as tie
 
-horizontal-fits : (c : tie.Start) → SFits w32 (c .args .mv .«motion_code_horiz»)
-horizontal-fits c = search needs
+pair-requires : tie.Need-pair-requires
+pair-requires c κs = search needs
 
-vertical-fits : (c : tie.Start) → SFits w32 (c .args .mv .«motion_code_vert»)
-vertical-fits c = search needs
+reconstructed-pair-requires : tie.Need-reconstructed-pair-requires
+reconstructed-pair-requires c κs = search needs
 
-new-fits : (c : tie.After-struct-told2) → SFits w32 (c .before .before .c .given .0 .0 .«new_pmv»)
-new-fits c = search needs
-
--- the two components' answers, in the definition's terms
-horizontal-is : (c : tie.After-reconstruct-component)
-    → let a = c .before .before .before .before .args in
-    c .reconstruct-component .result
-    ≡ reconstructedAnswer (horizontalRefusal (a .pmv) (a .mv) (a .r) (a .s) (a .f-code-horiz) (a .f-code-vert) (a .mv-format) (a .picture) ported)
-    (components (a .pmv) (a .mv) (a .r) (a .s) (a .f-code-horiz) (a .f-code-vert) (a .mv-format) (a .picture) .horizontal)
-horizontal-is c =
-    let s = c .before .before .before .before in
-    let g = c .before .before .before .get in
-    rw (toZ-ofZ (horizontal-fits s), back w32 (g .result) (g .ok), g .ensures) at (c .reconstruct-component .ensures .0)
-
-vertical-is : (c : tie.After-reconstruct-component2)
-    → let a = c .before .before .before .before .before .before .before .before .before .before .before .args in
-    c .reconstruct-component2 .result
-    ≡ reconstructedAnswer (verticalRefusal (a .pmv) (a .mv) (a .r) (a .s) (a .f-code-horiz) (a .f-code-vert) (a .mv-format) (a .picture) ported)
-    (components (a .pmv) (a .mv) (a .r) (a .s) (a .f-code-horiz) (a .f-code-vert) (a .mv-format) (a .picture) .vertical)
-vertical-is c =
-    let t = c .before .before .before .before .before .before .before .before in
-    let s = t .before .before .before in
-    let g = t .before .get2 in
-    rw (toZ-ofZ (vertical-fits s), back w32 (g .result) (g .ok), g .ensures) at (c .reconstruct-component2 .ensures .0)
-
-get-requires : tie.Need-get-requires
-get-requires c κs = search needs
-
-get-requires-2 : tie.Need-get-requires-2
-get-requires-2 c κs = search needs
-
-reconstruct-component-requires : tie.Need-reconstruct-component-requires
-reconstruct-component-requires c κs = search needs
-
-enum-known-number : tie.Need-enum-known-number
-enum-known-number c = search needs
-
-enum-known-c : tie.Need-enum-known-c
-enum-known-c c = search needs
-
-with-requires : tie.Need-with-requires
-with-requires c κs = search needs
-
-reconstruct-component-requires-2 : tie.Need-reconstruct-component-requires-2
-reconstruct-component-requires-2 c κs = search needs
-
-with-vertical-requires : tie.Need-with-vertical-requires
-with-vertical-requires c κs = search needs
+with-pair-requires : tie.Need-with-pair-requires
+with-pair-requires c κs = search needs
 
 returns : tie.Need-returns
+unfolding reconstructed
 returns c =
-    let b = c .before .before .before in
-    let a = b .before .before .before .before .args in
+    let b = c .before .before in
+    let a = b .before .before .args in
+    let e = rw (b .before .pair .ensures) at (b .reconstructed-pair .ensures .0) in
+    let p = c .with-pair .ensures ∙ ap (λ (d : DecodedPair). pairStored (a .pmv) (a .r) (a .s) (d .predictors)) e in
     vector-all (a .pmv) (a .mv) (a .r) (a .s) (a .f-code-horiz) (a .f-code-vert) (a .mv-format) (a .picture) _
-    (after-refused (a .pmv) (a .mv) (a .r) (a .s) (a .f-code-horiz) (a .f-code-vert) (a .mv-format) (a .picture) _ (sym (c .before .number .given .1) ∙ horizontal-is b))
-
-returns-2 : tie.Need-returns-2
-returns-2 c =
-    let w = c .before .before .before in
-    let k = w .before .before .before in
-    let b = k .before .before in
-    let a = b .before .before .before .before .args in
-    let e = rw (toZ-ofZ (new-fits (w .before))) at (w .with .ensures) in
-    vector-all (a .pmv) (a .mv) (a .r) (a .s) (a .f-code-horiz) (a .f-code-vert) (a .mv-format) (a .picture) _
-    (c .with-vertical .ensures
-    ∙ after-given (a .pmv) (a .mv) (a .r) (a .s) (a .f-code-horiz) (a .f-code-vert) (a .mv-format) (a .picture) _ _ _ (sym (k .c .given .1) ∙ horizontal-is b) e (vertical-is (c .before)))
+    (λ i. record { answer = e i .answer; pmv = p i })
 
 pub reconstructed-motion-vector-spec : {M : Type 1} → statement M
 reconstructed-motion-vector-spec =
-    tie.close
-    (tie.spec
-    get-requires
-    get-requires-2
-    reconstruct-component-requires
-    enum-known-number
-    enum-known-c
-    with-requires
-    reconstruct-component-requires-2
-    with-vertical-requires
-    returns
-    returns-2)
+    tie.close (tie.spec pair-requires reconstructed-pair-requires with-pair-requires returns)
