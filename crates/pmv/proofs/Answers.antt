@@ -8,7 +8,7 @@ use native.Mathlib.Omega.{arith}
 use lib.IntN.{ℤ}
 use Rattle.combine_predictions.specs.Refusals.{orElse, unlessRefused}
 use Rattle.forming_predictions.specs.SampleAnswers.{valueUnless}
-use Rattle.pmv.specs.Update.{updateRefusal, updateOutcome, after, updated}
+use Rattle.pmv.specs.Update.{updateRefusal, updateOutcome, updated}
 use Rattle.pmv.specs.Answers.{deltaAnswer, deltaNumber, deltaValue, rangeAnswer, rangeNumber, rangeValue, reconstructedAnswer, reconstructedNumber, reconstructedValue, vectorAnswer, vectorNumber, vectorValue, updateAnswer, updateNumber, updateValue}
 use Rattle.pmv.specs.declared.component.ComputedDelta.{ComputedDelta}
 use Rattle.pmv.specs.declared.component.ComputedDelta.the-variants as D
@@ -20,7 +20,6 @@ use Rattle.pmv.specs.declared.component.Reconstructed.the-variants as C
 use Rattle.pmv.specs.declared.vector.VectorComponents.{VectorComponents}
 use Rattle.pmv.specs.declared.vector.ReconstructedVector.{ReconstructedVector}
 use Rattle.pmv.specs.declared.update.PmvUpdateOutcome.{PmvUpdateOutcome}
-use Rattle.pmv.specs.declared.update.Updated.the-variants as U
 use Rattle.pmv.specs.declared.update.PmvUpdateContext.{PmvUpdateContext}
 use Rattle.pmv.specs.declared.update.PredictorUpdate.{PredictorUpdate}
 use Rattle.pmv.specs.declared.predictors.Pmv.{Pmv}
@@ -134,27 +133,6 @@ vector-promised r n v e = promised vectorAnswer vectorNumber vectorValue vector-
 update-parts : (n : ℕ) (v : PmvUpdateOutcome) → (updateNumber (updateAnswer n v) ≡ n) × (updateValue (updateAnswer n v) ≡ valueUnless n v)
 update-parts zero v = (refl, refl)
 update-parts (suc n) v = (refl, refl)
-
-pub update-no : (m n : ℕ) (o : PmvUpdateOutcome) (p q : Pmv)
-    → U.Refused n ≡ updateAnswer m o
-    → _≡_ {A = PredictorUpdate}
-    (record { answer = U.Refused n; pmv = p })
-    (record { answer = updateAnswer m o; pmv = unlessRefused m q p })
-update-no m n o p q e =
-    let h = refused updateAnswer updateNumber updateValue update-parts (U.Refused n) n m o e refl refl in
-    let k = sym (kept m q p (h .1)) in
-    λ i. record { answer = e i; pmv = k i }
-
-pub update-yes : (m : ℕ) (o v : PmvUpdateOutcome) (p w : Pmv)
-    → U.Outcome v ≡ updateAnswer m o
-    → w ≡ after v p
-    → _≡_ {A = PredictorUpdate}
-    (record { answer = U.Outcome v; pmv = w })
-    (record { answer = updateAnswer m o; pmv = unlessRefused m (after o p) p })
-update-yes m o v p w e f =
-    let h = given updateAnswer updateNumber updateValue update-parts (U.Outcome v) m o v e refl in
-    let k = f ∙ ap (λ (x : PmvUpdateOutcome). after x p) (h .1) ∙ sym (written m (after o p) p (h .0)) in
-    λ i. record { answer = e i; pmv = k i }
 
 pub updated-all : (r : PredictorUpdate) (pmv : Pmv) (x : PmvUpdateContext)
     → r ≡ updated pmv x

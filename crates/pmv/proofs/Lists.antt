@@ -40,6 +40,9 @@ set-is (x ∷ l) (suc k) v =
     rw (ne-eqb (suc k) 0 (λ q. absurd (omega arith)))
     (ap (λ (t : List ℤ). x ∷ t) (listed-ext (length l) _ _ (λ i. rw (same-test k i)) ∙ set-is l k v))
 
+pub listed-eight : (l : List ℤ) → length l ≡ 8 → listed 8 (λ (k : ℕ). getD l k (pos 0)) ≡ l
+listed-eight l n = ap (λ (m : ℕ). listed m (λ (k : ℕ). getD l k (pos 0))) (sym n) ∙ listed-self l
+
 -- eight that are written out
 pub eight-set : (l : List ℤ) (k : ℕ) (v : ℤ) {a b c d e f g h : ℤ} → length l ≡ 8
     → a ≡ cond (eqb k 0) v (getD l 0 (pos 0))

@@ -1,17 +1,17 @@
 //! ISO/IEC 13818-2, 7.6.3.3: the predictors after a macroblock's vectors, by Tables 7-10 and 7-11; and the reset of 7.7.5.1.
-use crate::kinds::Direction;
 use crate::kinds::MotionType;
 use crate::kinds::PictureCodingType;
 use crate::kinds::PictureStructure;
 use crate::kinds::PredictionType;
 use crate::predictors::Pmv;
 ghost use mathlib.Core.Path.{_≡_};
+ghost use mathlib.Core.Bool.{cond};
 ghost use Prim.Native.Nat.{_≤_};
 ghost use Rattle.pmv.specs.Kinds.{typeNumber, flagNumber};
-ghost use Rattle.pmv.specs.Update.{updateRefusal, updateOutcome, outcomeNumber, after, updated, spatialTemporalReset};
+ghost use Rattle.pmv.specs.Update.{updateRefusal, updateOutcome, outcomeNumber, updated, spatialTemporalReset};
 ghost use Rattle.forming_predictions.specs.SampleAnswers.{valueUnless};
-ghost use Rattle.pmv.specs.Answers.{updateAnswer, updateNumber, updateValue};
-ghost use Rattle.pmv.specs.inner.Rows.{rowAnswer, tableAnswer, untypedRefusal, untypedOutcome};
+ghost use Rattle.pmv.specs.Answers.{updateNumber, updateValue};
+ghost use Rattle.pmv.specs.inner.Rows.{tableRow, typeOrAny, isAbsent, decidedRow, outcomeOf, answerOf, carriedOut};
 
 /// Refusal: an intra macroblock with a motion flag.
 pub const INTRA_WITH_MOTION: u8 = 7;
@@ -72,90 +72,113 @@ pub struct SpatialTemporalReset {
     pub pmv: Pmv,
 }
 
-/// A place of the table: an outcome, or a refusal. It holds no number, so that the table stays one of bytes.
-enum Row {
-    IntraResetAll,
-    CopyBoth,
-    CopyForward,
-    CopyBackward,
-    ZeroMotionReset,
-    NoUpdate,
-    DualPrimeCopyForward,
-    IntraWithMotion,
-    FrameBasedInField,
-    SixteenByEightInFrame,
-    DualPrimeFlags,
-    NoneRowFlags,
-}
+// A row of the tables is a byte: eight times its number, which is the outcome's, or 16 and the refusal's; and below that what it does to the
+// predictors. An enum would be matched, and a match is a jump that nothing predicts.
+
+/// First to second, forward.
+const COPIES_FORWARD: u8 = 1;
+/// First to second, backward.
+const COPIES_BACKWARD: u8 = 2;
+/// All zero.
+const RESETS: u8 = 4;
+
+/// Intra with concealment vectors.
+const INTRA_CONCEALMENT: u8 = COPIES_FORWARD;
+/// Intra without.
+const INTRA_RESET: u8 = 8 + RESETS;
+/// Motion in both directions.
+const COPY_BOTH: u8 = 2 * 8 + COPIES_FORWARD + COPIES_BACKWARD;
+/// Forward alone.
+const COPY_FORWARD: u8 = 3 * 8 + COPIES_FORWARD;
+/// Backward alone.
+const COPY_BACKWARD: u8 = 4 * 8 + COPIES_BACKWARD;
+/// No motion flag.
+const ZERO_MOTION: u8 = 5 * 8 + RESETS;
+/// "(none)".
+const UNCHANGED: u8 = 6 * 8;
+/// Dual prime.
+const DUAL_PRIME: u8 = 7 * 8 + COPIES_FORWARD;
+/// No row: refusal 7.
+const REFUSED_7: u8 = (16 + INTRA_WITH_MOTION) * 8;
+/// No row: refusal 8.
+const REFUSED_8: u8 = (16 + TYPE_MISSING) * 8;
+/// No row: refusal 9.
+const REFUSED_9: u8 = (16 + FRAME_BASED_IN_FIELD) * 8;
+/// No row: refusal 10.
+const REFUSED_10: u8 = (16 + SIXTEEN_BY_EIGHT_IN_FRAME) * 8;
+/// No row: refusal 11.
+const REFUSED_11: u8 = (16 + DUAL_PRIME_FLAGS) * 8;
+/// No row: refusal 12.
+const REFUSED_12: u8 = (16 + NONE_ROW_FLAGS) * 8;
 
 /// Tables 7-10 and 7-11: by picture (field, frame), then type (field-based, frame-based, 16 × 8, dual prime), then forward, backward and
 /// intra, which counts fastest: eight lines for each picture and type, the first of them without a flag. Concealment and an absent type are
 /// decided beside it.
-const OUTCOMES: [Row; 64] = [
-    Row::ZeroMotionReset, // field picture, field-based
-    Row::IntraResetAll,
-    Row::CopyBackward,
-    Row::IntraWithMotion,
-    Row::CopyForward,
-    Row::IntraWithMotion,
-    Row::CopyBoth,
-    Row::IntraWithMotion,
-    Row::FrameBasedInField, // field picture, frame-based
-    Row::IntraResetAll,
-    Row::FrameBasedInField,
-    Row::IntraWithMotion,
-    Row::FrameBasedInField,
-    Row::IntraWithMotion,
-    Row::FrameBasedInField,
-    Row::IntraWithMotion,
-    Row::NoneRowFlags, // field picture, 16 × 8
-    Row::IntraResetAll,
-    Row::NoUpdate,
-    Row::IntraWithMotion,
-    Row::NoUpdate,
-    Row::IntraWithMotion,
-    Row::NoUpdate,
-    Row::IntraWithMotion,
-    Row::DualPrimeFlags, // field picture, dual prime
-    Row::IntraResetAll,
-    Row::DualPrimeFlags,
-    Row::IntraWithMotion,
-    Row::DualPrimeCopyForward,
-    Row::IntraWithMotion,
-    Row::DualPrimeFlags,
-    Row::IntraWithMotion,
-    Row::NoneRowFlags, // frame picture, field-based
-    Row::IntraResetAll,
-    Row::NoUpdate,
-    Row::IntraWithMotion,
-    Row::NoUpdate,
-    Row::IntraWithMotion,
-    Row::NoUpdate,
-    Row::IntraWithMotion,
-    Row::ZeroMotionReset, // frame picture, frame-based
-    Row::IntraResetAll,
-    Row::CopyBackward,
-    Row::IntraWithMotion,
-    Row::CopyForward,
-    Row::IntraWithMotion,
-    Row::CopyBoth,
-    Row::IntraWithMotion,
-    Row::SixteenByEightInFrame, // frame picture, 16 × 8
-    Row::IntraResetAll,
-    Row::SixteenByEightInFrame,
-    Row::IntraWithMotion,
-    Row::SixteenByEightInFrame,
-    Row::IntraWithMotion,
-    Row::SixteenByEightInFrame,
-    Row::IntraWithMotion,
-    Row::DualPrimeFlags, // frame picture, dual prime
-    Row::IntraResetAll,
-    Row::DualPrimeFlags,
-    Row::IntraWithMotion,
-    Row::DualPrimeCopyForward,
-    Row::IntraWithMotion,
-    Row::DualPrimeFlags,
-    Row::IntraWithMotion,
+const OUTCOMES: [u8; 64] = [
+    ZERO_MOTION, // field picture, field-based
+    INTRA_RESET,
+    COPY_BACKWARD,
+    REFUSED_7,
+    COPY_FORWARD,
+    REFUSED_7,
+    COPY_BOTH,
+    REFUSED_7,
+    REFUSED_9, // field picture, frame-based
+    INTRA_RESET,
+    REFUSED_9,
+    REFUSED_7,
+    REFUSED_9,
+    REFUSED_7,
+    REFUSED_9,
+    REFUSED_7,
+    REFUSED_12, // field picture, 16 × 8
+    INTRA_RESET,
+    UNCHANGED,
+    REFUSED_7,
+    UNCHANGED,
+    REFUSED_7,
+    UNCHANGED,
+    REFUSED_7,
+    REFUSED_11, // field picture, dual prime
+    INTRA_RESET,
+    REFUSED_11,
+    REFUSED_7,
+    DUAL_PRIME,
+    REFUSED_7,
+    REFUSED_11,
+    REFUSED_7,
+    REFUSED_12, // frame picture, field-based
+    INTRA_RESET,
+    UNCHANGED,
+    REFUSED_7,
+    UNCHANGED,
+    REFUSED_7,
+    UNCHANGED,
+    REFUSED_7,
+    ZERO_MOTION, // frame picture, frame-based
+    INTRA_RESET,
+    COPY_BACKWARD,
+    REFUSED_7,
+    COPY_FORWARD,
+    REFUSED_7,
+    COPY_BOTH,
+    REFUSED_7,
+    REFUSED_10, // frame picture, 16 × 8
+    INTRA_RESET,
+    REFUSED_10,
+    REFUSED_7,
+    REFUSED_10,
+    REFUSED_7,
+    REFUSED_10,
+    REFUSED_7,
+    REFUSED_11, // frame picture, dual prime
+    INTRA_RESET,
+    REFUSED_11,
+    REFUSED_7,
+    DUAL_PRIME,
+    REFUSED_7,
+    REFUSED_11,
+    REFUSED_7,
 ];
 
 impl PmvUpdateOutcome {
@@ -197,89 +220,136 @@ fn type_place(t: PredictionType) -> usize
     }
 }
 
-/// The answer that a place of the table stands for.
-fn row_answer(row: Row) -> Updated
-    ensures { λ r. ⌜ r ≡ rowAnswer row ⌝ }
+/// The type, any where there is none: the rows of an intra macroblock are those of every type.
+fn type_or_any(prediction_type: MotionType) -> PredictionType
+    ensures { λ r. ⌜ r ≡ typeOrAny «prediction_type» ⌝ }
 {
-    match row {
-        Row::IntraResetAll => Updated::Outcome(PmvUpdateOutcome::IntraResetAll),
-        Row::CopyBoth => Updated::Outcome(PmvUpdateOutcome::NonIntraCopyBoth),
-        Row::CopyForward => Updated::Outcome(PmvUpdateOutcome::NonIntraCopyForward),
-        Row::CopyBackward => Updated::Outcome(PmvUpdateOutcome::NonIntraCopyBackward),
-        Row::ZeroMotionReset => Updated::Outcome(PmvUpdateOutcome::NonIntraZeroMotionReset),
-        Row::NoUpdate => Updated::Outcome(PmvUpdateOutcome::NoUpdate),
-        Row::DualPrimeCopyForward => Updated::Outcome(PmvUpdateOutcome::DualPrimeCopyForward),
-        Row::IntraWithMotion => Updated::Refused(INTRA_WITH_MOTION),
-        Row::FrameBasedInField => Updated::Refused(FRAME_BASED_IN_FIELD),
-        Row::SixteenByEightInFrame => Updated::Refused(SIXTEEN_BY_EIGHT_IN_FRAME),
-        Row::DualPrimeFlags => Updated::Refused(DUAL_PRIME_FLAGS),
-        Row::NoneRowFlags => Updated::Refused(NONE_ROW_FLAGS),
+    match prediction_type {
+        MotionType::Absent => PredictionType::FieldBased,
+        MotionType::Present(t) => t,
+    }
+}
+
+fn is_absent(prediction_type: MotionType) -> bool
+    ensures { λ r. ⌜ r ≡ isAbsent «prediction_type» ⌝ }
+{
+    match prediction_type {
+        MotionType::Absent => true,
+        MotionType::Present(_) => false,
     }
 }
 
 /// The place of the table for these keys.
-fn row_at(frame: bool, t: PredictionType, forward: bool, backward: bool, intra: bool) -> Row
-    ensures { λ r. ⌜ rowAnswer r ≡ tableAnswer frame t forward backward intra ⌝ }
+fn row_at(frame: bool, t: PredictionType, forward: bool, backward: bool, intra: bool) -> u8
+    ensures { λ r. ⌜ r ≡ tableRow frame t forward backward intra ⌝ }
 {
     let kind = bit(frame) * 32 + type_place(t) * 8;
     let flags = bit(forward) * 4 + bit(backward) * 2 + bit(intra);
     OUTCOMES[kind + flags]
 }
 
-/// What the table says, which leaves concealment out.
-fn look_up(frame: bool, t: PredictionType, forward: bool, backward: bool, intra: bool) -> Updated
-    ensures { λ r. ⌜ r ≡ tableAnswer frame t forward backward intra ⌝ }
+/// `row`, and `other` where it is decided beside the table.
+fn row_unless(decided: bool, other: u8, row: u8) -> u8
+    ensures { λ r. ⌜ r ≡ cond decided other row ⌝ }
 {
-    row_answer(row_at(frame, t, forward, backward, intra))
-}
-
-/// Without a motion type, which an intra macroblock has not.
-fn untyped_answer(forward: bool, backward: bool, intra: bool) -> Updated
-    ensures { λ r. ⌜ r ≡ updateAnswer (untypedRefusal forward backward intra) (untypedOutcome intra) ⌝ }
-{
-    if !intra {
-        return Updated::Refused(TYPE_MISSING);
+    if decided {
+        return other;
     }
-    if forward | backward {
-        return Updated::Refused(INTRA_WITH_MOTION);
-    }
-    Updated::Outcome(PmvUpdateOutcome::IntraResetAll)
+    row
 }
 
 /// Which row of the tables the context asks for.
-fn decide(ctx: PmvUpdateContext) -> Updated
-    ensures { λ r. ⌜ r ≡ updateAnswer (updateRefusal ctx) (updateOutcome ctx) ⌝ }
+fn decide(ctx: PmvUpdateContext) -> u8
+    ensures { λ r. ⌜ r ≡ decidedRow ctx ⌝ }
 {
     let picture = ctx.picture_structure;
+    let prediction_type = ctx.prediction_type;
     let forward = ctx.macroblock_motion_forward;
     let backward = ctx.macroblock_motion_backward;
     let intra = ctx.macroblock_intra;
-    if (ctx.concealment_motion_vectors & intra) & !(forward | backward) {
-        return Updated::Outcome(PmvUpdateOutcome::IntraConcealmentCopyForwardFirst);
-    }
-    let prediction_type = ctx.prediction_type;
-    match prediction_type {
-        MotionType::Absent => untyped_answer(forward, backward, intra),
-        MotionType::Present(t) => look_up(picture.is_frame(), t, forward, backward, intra),
-    }
+    let row = row_at(
+        picture.is_frame(),
+        type_or_any(prediction_type),
+        forward,
+        backward,
+        intra,
+    );
+    let typed = row_unless(is_absent(prediction_type) & !intra, REFUSED_8, row);
+    row_unless(
+        (ctx.concealment_motion_vectors & intra) & !(forward | backward),
+        INTRA_CONCEALMENT,
+        typed,
+    )
 }
 
-/// What an outcome does to the predictors.
-fn carried_out(pmv: Pmv, outcome: PmvUpdateOutcome) -> Pmv
-    ensures { λ p. ⌜ p ≡ after outcome pmv ⌝ }
+/// The outcome with this number, which is at most 7.
+fn outcome_of(number: u8) -> PmvUpdateOutcome
+    ensures { λ r. ⌜ r ≡ outcomeOf number ⌝ }
 {
-    match outcome {
-        PmvUpdateOutcome::IntraConcealmentCopyForwardFirst => pmv.with_first_copied(
-            Direction::Forward,
-        ),
-        PmvUpdateOutcome::IntraResetAll => pmv.cleared(),
-        PmvUpdateOutcome::NonIntraCopyBoth => pmv.with_first_copied(Direction::Forward)
-            .with_first_copied(Direction::Backward),
-        PmvUpdateOutcome::NonIntraCopyForward => pmv.with_first_copied(Direction::Forward),
-        PmvUpdateOutcome::NonIntraCopyBackward => pmv.with_first_copied(Direction::Backward),
-        PmvUpdateOutcome::NonIntraZeroMotionReset => pmv.cleared(),
-        PmvUpdateOutcome::NoUpdate => pmv,
-        PmvUpdateOutcome::DualPrimeCopyForward => pmv.with_first_copied(Direction::Forward),
+    if number == 0 {
+        return PmvUpdateOutcome::IntraConcealmentCopyForwardFirst;
+    }
+    if number == 1 {
+        return PmvUpdateOutcome::IntraResetAll;
+    }
+    if number == 2 {
+        return PmvUpdateOutcome::NonIntraCopyBoth;
+    }
+    if number == 3 {
+        return PmvUpdateOutcome::NonIntraCopyForward;
+    }
+    if number == 4 {
+        return PmvUpdateOutcome::NonIntraCopyBackward;
+    }
+    if number == 5 {
+        return PmvUpdateOutcome::NonIntraZeroMotionReset;
+    }
+    if number == 6 {
+        return PmvUpdateOutcome::NoUpdate;
+    }
+    PmvUpdateOutcome::DualPrimeCopyForward
+}
+
+/// The answer that a row stands for. Both parts are made before the test, so that it chooses and does not jump.
+fn answer_of(row: u8) -> Updated
+    ensures { λ r. ⌜ r ≡ answerOf row ⌝ }
+{
+    let outcome = outcome_of(row / 8 % 8);
+    let refusal = row / 8 % 16;
+    if row < 128 {
+        return Updated::Outcome(outcome);
+    }
+    Updated::Refused(refusal)
+}
+
+fn chosen(first: bool, a: i32, b: i32) -> i32
+    ensures { λ r. ⌜ r ≡ cond first a b ⌝ }
+{
+    if first {
+        return a;
+    }
+    b
+}
+
+/// What a row does to the predictors. All eight are written out, as in `Pmv::with`.
+fn carried_out(pmv: Pmv, row: u8) -> Pmv
+    ensures { λ p. ⌜ p ≡ carriedOut row pmv ⌝ }
+{
+    let v = pmv.values;
+    let zero = row & RESETS != 0;
+    let forward = row & COPIES_FORWARD != 0;
+    let backward = row & COPIES_BACKWARD != 0;
+    Pmv {
+        values: [
+            chosen(zero, 0, v[0]),
+            chosen(zero, 0, v[1]),
+            chosen(zero, 0, v[2]),
+            chosen(zero, 0, v[3]),
+            chosen(zero, 0, chosen(forward, v[0], v[4])),
+            chosen(zero, 0, chosen(forward, v[1], v[5])),
+            chosen(zero, 0, chosen(backward, v[2], v[6])),
+            chosen(zero, 0, chosen(backward, v[3], v[7])),
+        ],
     }
 }
 
@@ -289,18 +359,10 @@ pub fn updated_predictors(pmv: Pmv, ctx: PmvUpdateContext) -> PredictorUpdate
     ensures number { λ r. ⌜ updateNumber (r .answer) ≡ updateRefusal ctx ⌝ }
     ensures value { λ r. ⌜ updateValue (r .answer) ≡ valueUnless (updateNumber (r .answer)) (updateOutcome ctx) ⌝ }
 {
-    match decide(ctx) {
-        Updated::Refused(number) => PredictorUpdate {
-            answer: Updated::Refused(number),
-            pmv: pmv,
-        },
-        Updated::Outcome(outcome) => {
-            let kept = carried_out(pmv, outcome);
-            PredictorUpdate {
-                answer: Updated::Outcome(outcome),
-                pmv: kept,
-            }
-        }
+    let row = decide(ctx);
+    PredictorUpdate {
+        answer: answer_of(row),
+        pmv: carried_out(pmv, row),
     }
 }
 

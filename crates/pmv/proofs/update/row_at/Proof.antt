@@ -1,10 +1,11 @@
--- `row_at` meets its contract: the table agrees with the rule.
+-- `row_at` meets its contract: the place is that of the keys.
 -- Assumes nothing.
-use mathlib.Core.Path.{_≡_, ap, _∙_}
+use mathlib.Core.Path.{_≡_, ap}
 use Prim.Native.Nat.{ℕ, _+_, _*_}
 use native.Mathlib.Omega.{arith}
-use Rattle.pmv.specs.inner.Rows.{rowAnswer}
-use Rattle.pmv.proofs.Rows.{outcomes, indexOf, tableRow, agrees}
+use lib.ListN.{getD}
+use Rattle.pmv.specs.Kinds.{flagNumber, typeNumber}
+use Rattle.pmv.specs.inner.Rows.{outcomes}
 use borrow.Author.Needs.{needs}
 use Rattle.pmv.proofs.update.row_at.Statement.{statement}
 use Rattle.pmv.proofs.update.row_at.Tie as tie
@@ -48,17 +49,16 @@ add-flags-2 c = search needs
 add-result : tie.Need-add-result
 add-result c = search needs
 
-array-copy-out-result : tie.Need-array-copy-out-result
-array-copy-out-result c = search needs
+array-read-result : tie.Need-array-read-result
+array-read-result c = search needs
 
 returns : tie.Need-returns
 unfolding outcomes
 returns c =
-    let b = c .before in
-    let a = b .before .before .before .before .before .args in
-    let e : (b .before .before .before .before .bit .result * 32 + b .before .before .before .type-place .result * 8) + (b .before .before .bit2 .result * 4 + b .before .bit3 .result * 2 + b .bit4 .result) ≡ indexOf (a .frame) (a .t) (a .forward) (a .backward) (a .intra) =
-    omega (arith, b .before .before .before .before .bit .ensures, b .before .before .before .type-place .ensures, b .before .before .bit2 .ensures, b .before .bit3 .ensures, b .bit4 .ensures) in
-    ap (λ (k : ℕ). rowAnswer (tableRow k)) e ∙ agrees (a .frame) (a .t) (a .forward) (a .backward) (a .intra)
+    let a = c .before .before .before .before .before .args in
+    let e : (c .before .before .before .before .bit .result * 32 + c .before .before .before .type-place .result * 8) + (c .before .before .bit2 .result * 4 + c .before .bit3 .result * 2 + c .bit4 .result) ≡ (flagNumber (a .frame) * 32 + typeNumber (a .t) * 8) + (flagNumber (a .forward) * 4 + flagNumber (a .backward) * 2 + flagNumber (a .intra)) =
+    omega (arith, c .before .before .before .before .bit .ensures, c .before .before .before .type-place .ensures, c .before .before .bit2 .ensures, c .before .bit3 .ensures, c .bit4 .ensures) in
+    ap (λ (k : ℕ). getD outcomes k 0) e
 
 pub row-at-spec : {M : Type 1} → statement M
 row-at-spec =
@@ -77,5 +77,5 @@ row-at-spec =
     bit-requires-4
     add-flags-2
     add-result
-    array-copy-out-result
+    array-read-result
     returns)
