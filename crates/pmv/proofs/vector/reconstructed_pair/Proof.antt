@@ -2,10 +2,11 @@
 -- Assumes nothing.
 use mathlib.Core.Path.{_≡_, sym, _∙_}
 use mir.Syntax.{w32}
-use mir.Val.{SFits}
+use mir.Val.{SFits, ofZ, toZ}
 use mir.Facts.{toZ-ofZ}
 use Rattle.pmv.specs.Vector.{ported, horizontalRefusal, verticalRefusal, components}
 use Rattle.pmv.specs.Answers.{reconstructedAnswer}
+use Rattle.pmv.specs.declared.predictors.PredictorPair.{PredictorPair}
 use Rattle.pmv.proofs.Vectors.{after-refused, after-given, pair-all}
 use borrow.Author.Needs.{needs}
 use Rattle.pmv.proofs.vector.reconstructed_pair.Statement.{statement}
@@ -25,6 +26,17 @@ prior-vertical-fits c = search needs
 
 new-fits : (c : tie.After-struct-told3) → SFits w32 (c .before .before .c .given .0 .0 .«new_pmv»)
 new-fits c = search needs
+
+-- the pair with the new horizontal predictor
+kept-is : (c : tie.After-struct-told3)
+    → let x = c .before .before .c .given .0 .0 in
+    let p = c .before .before .before .before .before .before .before .args .prior in
+    _≡_ {A = PredictorPair}
+    (record { horizontal = toZ w32 (ofZ w32 (x .«new_pmv»)); vertical = toZ w32 (ofZ w32 (p .vertical)) })
+    (record { horizontal = x .«new_pmv»; vertical = p .vertical })
+kept-is c =
+    let s = c .before .before .before .before .before .before .before in
+    rw (toZ-ofZ (new-fits c), toZ-ofZ (prior-vertical-fits s))
 
 -- the two components' answers, in the definition's terms
 horizontal-is : (c : tie.After-reconstruct-component)
@@ -69,11 +81,10 @@ returns-2 : tie.Need-returns-2
 returns-2 c =
     let k = c .before .before .before .before .before .before .before in
     let b = k .before .before in
-    let s = b .before .before .before in
-    let a = s .args in
+    let a = b .before .before .before .args in
     pair-all (a .prior) (a .mv) (a .f-code-horiz) (a .f-code-vert) (a .mv-format) (a .picture) _
     (c .with-vertical .ensures
-    ∙ after-given (a .prior) (a .mv) (a .f-code-horiz) (a .f-code-vert) (a .mv-format) (a .picture) _ _ _ (sym (k .c .given .1) ∙ horizontal-is b) (rw (toZ-ofZ (new-fits (c .before .before .before .before .before)), toZ-ofZ (prior-vertical-fits s))) (vertical-is (c .before)))
+    ∙ after-given (a .prior) (a .mv) (a .f-code-horiz) (a .f-code-vert) (a .mv-format) (a .picture) _ _ _ (sym (k .c .given .1) ∙ horizontal-is b) (kept-is (c .before .before .before .before .before)) (vertical-is (c .before)))
 
 pub reconstructed-pair-spec : {M : Type 1} → statement M
 reconstructed-pair-spec =
