@@ -103,7 +103,7 @@ impl Updates {
                 "`update_predictors` with drawn contexts",
                 "As in a stream is a made-up mix: of 16 macroblocks 2 intra, 1 without motion, 10 \
                  with motion that copies predictors, 3 with motion that does not.",
-                "",
+                ", and reads and writes all eight predictors",
             ),
         );
         for row in &self.rows {
