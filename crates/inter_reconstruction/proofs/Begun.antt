@@ -4,9 +4,12 @@ use mathlib.Core.Path.{_≡_, refl, sym, ap, _∙_}
 use mathlib.Core.List.{List, [], _++_, append-assoc, append-nil}
 use Prim.Native.Nat.{ℕ, _+_, _-_, _≤_}
 use native.Mathlib.Omega.{arith}
-use lib.ListN.{length, take, drop, length-append, length-drop, replicate}
+use lib.ListN.{length, take, drop, length-append, length-drop, replicate, getD}
 use lib.Seq.{take-at, drop-at, drop-drop, drop-length, length-take-le}
 use borrow.Rule.Slice.PartMut.{putMid}
+use Rattle.laws.specs.Tabulate.{tabulate}
+use Rattle.laws.proofs.Tabulated.{tab-ext, tab-self}
+use Rattle.laws.proofs.Parts.{part-length, part-at}
 
 -- the buffer o, which was d, has `front` at its front and is as it was behind it
 pub record Begun (front d o : List ℕ) : Type 0 where
@@ -76,3 +79,9 @@ front-within n ys rest e = omega (arith, length-append ys rest)
 
 pub front-length : (n : ℕ) (ys rest : List ℕ) → length ys ≡ n → n ≡ length (take n (ys ++ rest))
 front-length n ys rest e = sym (ap length (front-is n ys rest e) ∙ e)
+
+-- ---- a part of a slice, as what its reads tabulate
+pub part-tab : (s : List ℕ) (a n : ℕ) → a + n ≤ length s → take (a + n - a) (drop a s) ≡ tabulate n (λ (k : ℕ). getD s (a + k) 0)
+part-tab s a n h =
+    let long : length (take (a + n - a) (drop a s)) ≡ n = part-length s a (a + n) h ∙ omega arith in
+    sym (tab-self (take (a + n - a) (drop a s))) ∙ rw long (tab-ext n _ _ (λ k l. part-at s a (a + n) k (omega arith)))

@@ -6,4 +6,5 @@ pub mod Frames
 pub mod Macroblock
 pub mod Refusals
 pub mod Answers
+pub mod Entries
 pub mod inner

@@ -11,3 +11,5 @@ mod blocks;
 mod planes;
 /// The calls.
 pub mod macroblock;
+/// The C entry points that predict.
+pub mod c_prediction;

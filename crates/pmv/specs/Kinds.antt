@@ -147,6 +147,72 @@ flagFrom n =
     (cond (eqb n 1) (OptionFlag.Some true)
     OptionFlag.None)
 
+-- ---- numbers that are read: whether one has a meaning, and what it means. One without a meaning is refused before that matters.
+
+abbrev pub indexKnown : OptionVectorIndex → Bool
+indexKnown OptionVectorIndex.None = false
+indexKnown (OptionVectorIndex.Some k) = true
+
+abbrev pub indexOr : OptionVectorIndex → VectorIndex
+indexOr OptionVectorIndex.None = VectorIndex.First
+indexOr (OptionVectorIndex.Some k) = k
+
+abbrev pub directionKnown : OptionDirection → Bool
+directionKnown OptionDirection.None = false
+directionKnown (OptionDirection.Some k) = true
+
+abbrev pub directionOr : OptionDirection → Direction
+directionOr OptionDirection.None = Direction.Forward
+directionOr (OptionDirection.Some k) = k
+
+abbrev pub formatKnown : OptionMvFormat → Bool
+formatKnown OptionMvFormat.None = false
+formatKnown (OptionMvFormat.Some k) = true
+
+abbrev pub formatOr : OptionMvFormat → MvFormat
+formatOr OptionMvFormat.None = MvFormat.Field
+formatOr (OptionMvFormat.Some k) = k
+
+abbrev pub structureKnown : OptionPictureStructure → Bool
+structureKnown OptionPictureStructure.None = false
+structureKnown (OptionPictureStructure.Some k) = true
+
+abbrev pub structureOr : OptionPictureStructure → PictureStructure
+structureOr OptionPictureStructure.None = PictureStructure.TopField
+structureOr (OptionPictureStructure.Some k) = k
+
+abbrev pub typeKnown : OptionPredictionType → Bool
+typeKnown OptionPredictionType.None = false
+typeKnown (OptionPredictionType.Some k) = true
+
+abbrev pub typeOr : OptionPredictionType → PredictionType
+typeOr OptionPredictionType.None = PredictionType.FieldBased
+typeOr (OptionPredictionType.Some k) = k
+
+abbrev pub chromaKnown : OptionChromaFormat → Bool
+chromaKnown OptionChromaFormat.None = false
+chromaKnown (OptionChromaFormat.Some k) = true
+
+abbrev pub chromaOr : OptionChromaFormat → ChromaFormat
+chromaOr OptionChromaFormat.None = ChromaFormat.Yuv420
+chromaOr (OptionChromaFormat.Some k) = k
+
+abbrev pub parityKnown : OptionFieldParity → Bool
+parityKnown OptionFieldParity.None = false
+parityKnown (OptionFieldParity.Some k) = true
+
+abbrev pub parityOr : OptionFieldParity → FieldParity
+parityOr OptionFieldParity.None = Top
+parityOr (OptionFieldParity.Some k) = k
+
+abbrev pub flagKnown : OptionFlag → Bool
+flagKnown OptionFlag.None = false
+flagKnown (OptionFlag.Some k) = true
+
+abbrev pub flagOr : OptionFlag → Bool
+flagOr OptionFlag.None = false
+flagOr (OptionFlag.Some k) = k
+
 -- ---- tests
 
 abbrev pub isVertical : Component → Bool

@@ -2,7 +2,7 @@
 //! order of its values; these are not the codes of the stream.
 use forming_predictions::FieldParity;
 ghost use mathlib.Core.Path.{_≡_};
-ghost use Rattle.pmv.specs.Kinds.{componentNumber, directionNumber, directionFrom, indexNumber, indexFrom, formatNumber, formatFrom, structureNumber, structureFrom, typeNumber, typeFrom, codingNumber, chromaNumber, chromaFrom, parityFrom, flagFrom, isVertical, isFieldFormat, isFramePicture, isInterPicture};
+ghost use Rattle.pmv.specs.Kinds.{componentNumber, directionNumber, directionFrom, indexNumber, indexFrom, formatNumber, formatFrom, structureNumber, structureFrom, typeNumber, typeFrom, codingNumber, chromaNumber, chromaFrom, parityFrom, flagFrom, indexKnown, indexOr, directionKnown, directionOr, formatKnown, formatOr, structureKnown, structureOr, typeKnown, typeOr, chromaKnown, chromaOr, parityKnown, parityOr, flagKnown, flagOr, isVertical, isFieldFormat, isFramePicture, isInterPicture};
 
 /// `t` of Table 7-7.
 pub enum Component {
@@ -328,6 +328,182 @@ pub fn flag_from_number(number: u32) -> OptionFlag
         return OptionFlag::Some(true);
     }
     OptionFlag::None
+}
+
+impl OptionVectorIndex {
+    /// Whether the number means one.
+    pub fn is_some(self) -> bool
+        ensures { λ k. ⌜ k ≡ indexKnown self ⌝ }
+    {
+        match self {
+            OptionVectorIndex::None => false,
+            OptionVectorIndex::Some(_) => true,
+        }
+    }
+
+    /// The one that it means, or else the first in order.
+    pub fn or_first(self) -> VectorIndex
+        ensures { λ k. ⌜ k ≡ indexOr self ⌝ }
+    {
+        match self {
+            OptionVectorIndex::None => VectorIndex::First,
+            OptionVectorIndex::Some(kind) => kind,
+        }
+    }
+}
+
+impl OptionDirection {
+    /// Whether the number means one.
+    pub fn is_some(self) -> bool
+        ensures { λ k. ⌜ k ≡ directionKnown self ⌝ }
+    {
+        match self {
+            OptionDirection::None => false,
+            OptionDirection::Some(_) => true,
+        }
+    }
+
+    /// The one that it means, or else the first in order.
+    pub fn or_first(self) -> Direction
+        ensures { λ k. ⌜ k ≡ directionOr self ⌝ }
+    {
+        match self {
+            OptionDirection::None => Direction::Forward,
+            OptionDirection::Some(kind) => kind,
+        }
+    }
+}
+
+impl OptionMvFormat {
+    /// Whether the number means one.
+    pub fn is_some(self) -> bool
+        ensures { λ k. ⌜ k ≡ formatKnown self ⌝ }
+    {
+        match self {
+            OptionMvFormat::None => false,
+            OptionMvFormat::Some(_) => true,
+        }
+    }
+
+    /// The one that it means, or else the first in order.
+    pub fn or_first(self) -> MvFormat
+        ensures { λ k. ⌜ k ≡ formatOr self ⌝ }
+    {
+        match self {
+            OptionMvFormat::None => MvFormat::Field,
+            OptionMvFormat::Some(kind) => kind,
+        }
+    }
+}
+
+impl OptionPictureStructure {
+    /// Whether the number means one.
+    pub fn is_some(self) -> bool
+        ensures { λ k. ⌜ k ≡ structureKnown self ⌝ }
+    {
+        match self {
+            OptionPictureStructure::None => false,
+            OptionPictureStructure::Some(_) => true,
+        }
+    }
+
+    /// The one that it means, or else the first in order.
+    pub fn or_first(self) -> PictureStructure
+        ensures { λ k. ⌜ k ≡ structureOr self ⌝ }
+    {
+        match self {
+            OptionPictureStructure::None => PictureStructure::TopField,
+            OptionPictureStructure::Some(kind) => kind,
+        }
+    }
+}
+
+impl OptionPredictionType {
+    /// Whether the number means one.
+    pub fn is_some(self) -> bool
+        ensures { λ k. ⌜ k ≡ typeKnown self ⌝ }
+    {
+        match self {
+            OptionPredictionType::None => false,
+            OptionPredictionType::Some(_) => true,
+        }
+    }
+
+    /// The one that it means, or else the first in order.
+    pub fn or_first(self) -> PredictionType
+        ensures { λ k. ⌜ k ≡ typeOr self ⌝ }
+    {
+        match self {
+            OptionPredictionType::None => PredictionType::FieldBased,
+            OptionPredictionType::Some(kind) => kind,
+        }
+    }
+}
+
+impl OptionChromaFormat {
+    /// Whether the number means one.
+    pub fn is_some(self) -> bool
+        ensures { λ k. ⌜ k ≡ chromaKnown self ⌝ }
+    {
+        match self {
+            OptionChromaFormat::None => false,
+            OptionChromaFormat::Some(_) => true,
+        }
+    }
+
+    /// The one that it means, or else the first in order.
+    pub fn or_first(self) -> ChromaFormat
+        ensures { λ k. ⌜ k ≡ chromaOr self ⌝ }
+    {
+        match self {
+            OptionChromaFormat::None => ChromaFormat::Yuv420,
+            OptionChromaFormat::Some(kind) => kind,
+        }
+    }
+}
+
+impl OptionFieldParity {
+    /// Whether the number means one.
+    pub fn is_some(self) -> bool
+        ensures { λ k. ⌜ k ≡ parityKnown self ⌝ }
+    {
+        match self {
+            OptionFieldParity::None => false,
+            OptionFieldParity::Some(_) => true,
+        }
+    }
+
+    /// The one that it means, or else the first in order.
+    pub fn or_first(self) -> FieldParity
+        ensures { λ k. ⌜ k ≡ parityOr self ⌝ }
+    {
+        match self {
+            OptionFieldParity::None => FieldParity::Top,
+            OptionFieldParity::Some(kind) => kind,
+        }
+    }
+}
+
+impl OptionFlag {
+    /// Whether the number means one.
+    pub fn is_some(self) -> bool
+        ensures { λ k. ⌜ k ≡ flagKnown self ⌝ }
+    {
+        match self {
+            OptionFlag::None => false,
+            OptionFlag::Some(_) => true,
+        }
+    }
+
+    /// The one that it means, or else no.
+    pub fn or_first(self) -> bool
+        ensures { λ k. ⌜ k ≡ flagOr self ⌝ }
+    {
+        match self {
+            OptionFlag::None => false,
+            OptionFlag::Some(kind) => kind,
+        }
+    }
 }
 
 impl Component {
