@@ -3,3 +3,4 @@ pub mod Begun
 pub mod Rectangles
 pub mod Cells
 pub mod Checks
+pub mod Words

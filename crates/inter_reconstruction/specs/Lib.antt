@@ -6,5 +6,6 @@ pub mod Frames
 pub mod Macroblock
 pub mod Refusals
 pub mod Answers
+pub mod Layout
 pub mod Entries
 pub mod inner

@@ -13,3 +13,5 @@ mod planes;
 pub mod macroblock;
 /// The C entry points that predict.
 pub mod c_prediction;
+/// The buffers of the C entry points.
+mod layout;
