@@ -4,7 +4,7 @@ use mathlib.Core.Path.{_≡_, refl, sym, ap, _∙_}
 use mathlib.Core.Bool.{true, false}
 use mathlib.Core.List.{List, [], _∷_}
 use Prim.Native.Nat.{ℕ, _+_, _-_, _*_, _/_, _%_, _≤_, _<_}
-use native.Mathlib.Nat.{zero-add, one-mul, mul-comm, mul-le-mul, mod-lt, div-lt-iff-lt-mul}
+use native.Mathlib.Nat.{zero-add, add-assoc, zero-mul, one-mul, mul-comm, mul-assoc, mul-add, add-mul, mul-le-mul, mod-lt, div-lt-iff-lt-mul}
 use native.Mathlib.Omega.{arith}
 use lib.Arith.{digits-lt, digits-div, digits-mod}
 use lib.Dec.{leb}
@@ -19,10 +19,10 @@ use Rattle.laws.proofs.Tabulated.{tab-ext, length-tab, getD-tab, tab-append}
 use Rattle.laws.proofs.Parts.{part-length, part-at}
 use Rattle.forming_predictions.specs.Lines.{clampTo}
 use Rattle.forming_predictions.specs.Forming.{blockOf}
-use Rattle.forming_predictions.specs.inner.Views.{lineStart, viewRead, spread, fourOf, lineCell, picked, columnAt, insideOf, ViewFits, BlockFits, Eights, RowFits, Inside, ColumnsFit, FetchFits, RegionFits}
+use Rattle.forming_predictions.specs.inner.Views.{lineStart, viewRead, spread, twoOf, fourOf, lineCell, picked, columnAt, insideOf, ViewFits, BlockFits, Eights, RowFits, Inside, ColumnsFit, FetchFits, RegionFits}
 use Rattle.forming_predictions.proofs.Lines.{clamp-in, clamp-lt}
 use Rattle.forming_predictions.proofs.Views.{empty-read}
-use Rattle.forming_predictions.proofs.RowMeans.{mean4-same}
+use Rattle.forming_predictions.proofs.RowMeans.{mean4-same, two-is-four}
 
 -- sample c of row r
 pub row-of-block : (rule : ℤ → ℤ → ℕ) (x y : ℤ) (w r c : ℕ) → c < w
@@ -94,6 +94,51 @@ module _ {s : List ℕ} {w first step count x y dx dy n : ℕ} (f : ViewFits s w
         clamp-sum w x k (omega (arith, i .right)),
         clamp-sums w x k dx (omega (arith, i .right)),
       )
+
+-- ---- a block of 8 × 8 whose samples are read by their places: row r starts r strides after the first one
+line-further : (first step w y r : ℕ) → lineStart first step w (y + r) ≡ lineStart first step w y + r * (step * w)
+line-further first step w y r =
+    rw (mul-add step y r, ← add-assoc first (step * y) (step * r), add-mul (first + step * y) (step * r) w, mul-comm step r, mul-assoc r step w)
+
+pub no-gap : (dx dy stride : ℕ) → dx + dy ≡ 0 → 0 ≡ dx + dy * stride
+no-gap dx dy stride e = let z : dy ≡ 0 = omega arith in rw z (omega (arith, zero-mul stride))
+
+module _ {s : List ℕ} {w first step count x y dx dy gap : ℕ} (f : ViewFits s w first step count) (i : Inside w count x y dx dy 8 8)
+    (e : gap ≡ dx + dy * (step * w)) where
+  pub square-room : lineStart first step w y + x + 7 * (step * w) + gap + 8 ≤ length s
+  square-room =
+      omega (
+        arith,
+        f .room (y + (dy + 7)) (omega (arith, i .below)),
+        line-further first step w y (dy + 7),
+        add-mul dy 7 (step * w),
+        i .right,
+      )
+
+  square-cell : dx + dy ≤ 1 → (r c : ℕ) → r < 8 → c < 8
+      → twoOf s s (lineStart first step w y + x + r * (step * w)) gap c ≡ lineCell s w first step count (pos x) (pos (y + r)) dx dy c
+  unfolding twoOf
+  square-cell n r c p q =
+      let here = lineStart first step w (y + r) in
+      let below = lineStart first step w (y + r + dy) in
+      let line : Inside w count x (y + r) dx dy 8 1 = record { right = i .right; below = omega (arith, i .below) } in
+      let one : lineStart first step w y + x + r * (step * w) + c ≡ here + (x + c) = omega (arith, line-further first step w y r) in
+      let two : lineStart first step w y + x + r * (step * w) + gap + c ≡ below + (x + dx + c) =
+      omega (arith, line-further first step w y r, line-further first step w (y + r) dy) in
+      rw (
+        one,
+        two,
+        ← part-at s here (here + w) (x + c) (omega (arith, i .right)),
+        ← part-at s below (below + w) (x + dx + c) (omega (arith, i .right)),
+      )
+      (two-is-four _ _ x dx dy c (omega arith) (omega arith) (λ b. omega arith) (same-rows f line refl refl) ∙ line-cells f line refl refl c q)
+
+  pub square-block : dx + dy ≤ 1
+      → tabulate 64 (λ (k : ℕ). twoOf s s (lineStart first step w y + x + k / 8 * (step * w)) gap (k % 8))
+      ≡ blockOf 8 8 (λ (a b : ℤ). spread (viewRead s w first step count) a b dx dy) (pos x) (pos y)
+  unfolding blockOf lineCell
+  square-block n =
+      tab-ext 64 _ _ (λ k p. square-cell n (k / 8) (k % 8) (omega arith) (mod-lt k (omega arith)))
 
 -- ---- a line that is read in clamped columns
 module _ {s columns : List ℕ} {w first step count : ℕ} (f : ViewFits s w first step count) (g : ColumnsFit columns w) (y : ℤ) {a : ℕ}

@@ -1,10 +1,15 @@
 -- `form_inside` meets its contract: after r turns the first r rows are in place.
 -- Assumes nothing.
+use mathlib.Core.Path.{_≡_}
+use mathlib.Core.Bool.{_&&_}
 use Prim.Native.Nat.{ℕ, _+_, _-_, _*_, _/_, _%_, _≤_}
 use native.Mathlib.Omega.{arith}
 use lib.IntN.{ℤ, pos, _+ℤ_}
+use lib.Dec.{eqb, leb}
 use lib.ListN.{length}
+use borrow.Author.Tests.{eqb-true, leb-true}
 use Rattle.laws.proofs.Rows.{RowsFilled, rows-none, rows-room, rows-part, rows-step, rows-all}
+use Rattle.laws.proofs.Tests.{both}
 use Rattle.forming_predictions.specs.Forming.{blockOf}
 use Rattle.forming_predictions.specs.inner.Views.{viewRead, spread, lineCell}
 use Rattle.forming_predictions.proofs.Blocks.{row-of-block}
@@ -20,15 +25,41 @@ abbrev μ-loop : tie.MeasureT-loop
 μ-loop samples width first step count x y dx dy block-width block-height out₀ r₀ out r = block-height - r
 
 abbrev start : tie.At-loop Inv-loop μ-loop → tie.Start Inv-loop μ-loop
-start c = c .before .before .before
+start c = c .before .before .before .before
 
 -- the row lies in the buffer
 room : (c : tie.In-loop Inv-loop μ-loop)
     → c .before .loop .r * start (c .before) .args .block-width + start (c .before) .args .block-width ≤ length (c .before .loop .out)
 room c = rows-room (c .before .loop .inv) (omega (arith, c .loop-test .taken))
 
+-- what the test of a square block says
+square : (c : tie.Then1 Inv-loop μ-loop)
+    → (let a = c .before .before .before .args in (a .dx + a .dy ≤ 1) × (a .block-width ≡ 8) × (a .block-height ≡ 8))
+square c =
+    let a = c .before .before .before .args in
+    let t = both (leb (a .dx + a .dy) 1) (eqb (a .block-width) 8 && eqb (a .block-height) 8) (c .if1 .taken) in
+    let u = both (eqb (a .block-width) 8) (eqb (a .block-height) 8) (t .1) in
+    (leb-true (a .dx + a .dy) 1 (t .0), eqb-true (a .block-width) 8 (u .0), eqb-true (a .block-height) 8 (u .1))
+
+form-square-requires : tie.Need-form-square-requires Inv-loop μ-loop
+form-square-requires c κs =
+    let t = c .before in
+    let s = t .before .before .before in
+    let q = square t in (
+      s .pre .0,
+      record { right = omega (arith, s .pre .2 .right, q .1); below = omega (arith, s .pre .2 .below, q .2) },
+      q .0,
+      rw (q .1, q .2) at (s .pre .1 .count),
+    )
+
+returns : tie.Need-returns Inv-loop μ-loop
+returns c =
+    let f = c .before .before in
+    let q = square (f .before .before) in
+    rw (q .1, q .2) (f .form-square .ensures)
+
 loop-holds : tie.Need-loop-holds Inv-loop μ-loop
-loop-holds c = rows-none _ _ _ _ (c .before .before .pre .1 .count)
+loop-holds c = rows-none _ _ _ _ (c .before .before .before .pre .1 .count)
 
 part-form-line-end : tie.Need-part-form-line-end Inv-loop μ-loop
 part-form-line-end c = room c
@@ -55,9 +86,9 @@ loop-again c =
     rows-step (l .loop .inv) (omega (arith, i .loop-test .taken)) (f .form-line .ensures)
     (λ k h. row-of-block (λ (x y : ℤ). spread (viewRead (a .samples .now) (a .width) (a .first) (a .step) (a .count)) x y (a .dx) (a .dy)) (pos (a .x)) (pos (a .y)) (a .block-width) (l .loop .r) k h)
 
-returns : tie.Need-returns Inv-loop μ-loop
+returns-2 : tie.Need-returns-2 Inv-loop μ-loop
 unfolding blockOf
-returns c = rows-all (c .before .loop .inv) (omega (arith, c .loop-test .left))
+returns-2 c = rows-all (c .before .loop .inv) (omega (arith, c .loop-test .left))
 
 pub form-inside-spec : {M : Type 1} → statement M
 form-inside-spec =
@@ -65,6 +96,10 @@ form-inside-spec =
     (tie.spec
     Inv-loop
     μ-loop
+    (λ c. search needs)
+    form-square-requires
+    (λ c. search needs)
+    returns
     loop-holds
     (λ c. search needs)
     (λ c. search needs)
@@ -77,4 +112,4 @@ form-inside-spec =
     (λ c. search needs)
     loop-again
     (λ c. search needs)
-    returns)
+    returns-2)
