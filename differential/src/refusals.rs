@@ -1,6 +1,8 @@
-//! Document 01's numbers for the original's refusals of vectors and updates.
+//! Document 01's numbers for the original's refusals: of vectors and updates, which are texts, and
+//! of macroblocks.
 
 use crate::Error;
+use crate::inter_reconstruction::InterError;
 
 /// The original's texts, with the numbers.
 const NUMBERS: [(&str, u8); 12] = [
@@ -62,5 +64,17 @@ pub fn number(error: Error) -> Result<u8, String> {
     match NUMBERS.iter().find(|(known, _)| *known == text) {
         Some((_, number)) => Ok(*number),
         None => Err(format!("document 01 has no number for: {text}")),
+    }
+}
+
+/// The number of a macroblock's refusal, or why it has none.
+pub fn inter_number(error: InterError) -> Result<u8, String> {
+    match error {
+        InterError::ReferenceGeometryMismatch => Ok(15),
+        InterError::MissingForwardReference => Ok(16),
+        InterError::MissingBackwardReference => Ok(17),
+        InterError::UnsupportedPredictionMode | InterError::InvalidBlockIndex => {
+            Err(format!("document 01 has no number for: {error:?}"))
+        }
     }
 }

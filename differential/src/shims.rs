@@ -1,12 +1,12 @@
 //! What the ten files name of the original's other files, and of the crate
 //! `oxideav_core`, as far as the compiler asks for it.
 //!
-//! The comparisons, those of the layers to come included, call `average_predictions`,
-//! `combine_directional_predictions`, what is public in `forming_predictions` and `pmv`,
-//! `predict_frame_macroblock_planes`, `predict_field_based_macroblock_planes`, and the
-//! methods of `FrameBuffer` and `Plane`. Of what is below, `Error`, `Result` and
-//! `ChromaFormat` take part in those calls. The rest never runs, and its functions stop
-//! the program: a guess at what they answer could pass for the original's answer.
+//! The comparisons call `average_predictions`, `combine_directional_predictions`, what is
+//! public in `forming_predictions` and `pmv`, `predict_frame_macroblock_planes`,
+//! `predict_field_based_macroblock_planes`, and methods of `FrameBuffer` and `Plane`. Of
+//! what is below, `Error`, `Result` and `ChromaFormat` take part in those calls. The rest
+//! never runs, and its functions stop the program: a guess at what they answer could pass
+//! for the original's answer.
 
 fn never_runs(item: &str) -> ! {
     unreachable!("{item} is a shim that no comparison may reach")

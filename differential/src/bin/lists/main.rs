@@ -3,6 +3,7 @@
 
 mod combine_predictions;
 mod forming_predictions;
+mod inter_reconstruction;
 mod list;
 mod pmv;
 
@@ -19,6 +20,7 @@ const MAKERS: &[fn() -> List] = &[
     combine_predictions::list,
     forming_predictions::list,
     pmv::list,
+    inter_reconstruction::list,
 ];
 
 const USAGE: &str = "\
