@@ -4,3 +4,4 @@ pub mod Rectangles
 pub mod Cells
 pub mod Checks
 pub mod Words
+pub mod Updates

@@ -3,7 +3,7 @@
 use mathlib.Core.Path.{_≡_, refl, sym, ap, _∙_}
 use mathlib.Core.Bool.{true, false}
 use mathlib.Core.List.{List, [], _∷_, _++_}
-use Prim.Native.Nat.{ℕ, zero, suc, _+_, _-_, _*_, _/_, _%_, _≤_, _<_, _^_}
+use Prim.Native.Nat.{ℕ, suc, _+_, _-_, _*_, _/_, _%_, _≤_, _<_, _^_}
 use native.Mathlib.Nat.{div-add-mod', mod-eq-of-lt}
 use native.Mathlib.Omega.{arith}
 use lib.Dec.{T, ltb}
@@ -13,12 +13,12 @@ use lib.Seq.{drop-drop}
 use lib.Pow.{shr-shr}
 use lib.Signed.{ltZ, nonNeg}
 use mir.Syntax.{w32, w64}
-use mir.Val.{SFits, Fits, toZ, ofZ}
+use mir.Val.{SFits, Fits, ofZ}
 use mir.Facts.{toZ-ofZ, fits-ofZ, fits-natAbs}
 use borrow.Author.Tests.{le-ltb}
 use borrow.Rule.Slice.PartMut.{putMid}
-use Rattle.laws.proofs.Signed.{zp, zn, eq-z, add-z, sub-z, lt-yes, lt-no, sfits-z, sfits-hi, sfits-lo}
-use Rattle.inter_reconstruction.specs.Layout.{wordOf, numberOf, wordBytes, bytesOf, numberAt, predictorsOf, pairBytes, numbersBytes}
+use Rattle.laws.proofs.Signed.{eq-z, add-z, sub-z, lt-yes, lt-no, sfits-z, sfits-lo}
+use Rattle.inter_reconstruction.specs.Layout.{wordOf, numberOf, bytesOf, numberAt, predictorsOf, pairBytes, numbersBytes}
 use Rattle.pmv.specs.Predictors.{pmvIndex, pairOf}
 use Rattle.pmv.specs.declared.kinds.Component.the-variants.{Horizontal}
 use Rattle.pmv.specs.declared.kinds.VectorIndex.{VectorIndex}

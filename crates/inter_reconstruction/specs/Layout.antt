@@ -5,7 +5,7 @@ use mathlib.Core.List.{List, [], _∷_, _++_}
 use Prim.Native.Nat.{ℕ, suc, _+_, _-_, _*_, _/_, _%_}
 use lib.Dec.{ltb}
 use lib.IntN.{ℤ, pos, negsuc}
-use lib.ListN.{length, getD, take, drop}
+use lib.ListN.{getD, take, drop}
 use Rattle.pmv.specs.Predictors.{pmvIndex}
 use Rattle.pmv.specs.declared.kinds.Component.the-variants.{Horizontal}
 use Rattle.pmv.specs.declared.kinds.VectorIndex.{VectorIndex}

@@ -106,7 +106,8 @@ fn field_known(
 
 // ---- what they mean
 
-fn is_yes(number: u32) -> bool
+/// Whether a flag's number is 1.
+pub fn is_yes(number: u32) -> bool
     ensures { λ r. ⌜ r ≡ isYes number ⌝ }
 {
     let flag = flag_from_number(number);

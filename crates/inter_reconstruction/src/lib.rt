@@ -15,3 +15,5 @@ pub mod macroblock;
 pub mod c_prediction;
 /// The buffers of the C entry points.
 mod layout;
+/// The C entry points for vectors and predictors.
+pub mod c_vectors;

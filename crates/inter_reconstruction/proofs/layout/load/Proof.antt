@@ -1,17 +1,13 @@
 -- `load` meets its contract.
 -- Assumes nothing.
-use mathlib.Core.Path.{_≡_, refl, sym, ap, _∙_}
+use mathlib.Core.Path.{_≡_, ap, _∙_}
 use Prim.Native.Nat.{_+_, _*_}
 use native.Mathlib.Omega.{arith}
 use mir.Syntax.{w32}
 use borrow.Author.Needs.{needs}
 use Rattle.inter_reconstruction.proofs.layout.load.Tie as tie
-use Rattle.inter_reconstruction.proofs.layout.signed.Reads as signed-reads
-use Rattle.inter_reconstruction.proofs.layout.load.Lts as lts
 use Rattle.inter_reconstruction.specs.Layout.{numberOf, wordAt, numberAt}
 use Rattle.laws.proofs.Bits.{back}
-use Rattle.inter_reconstruction.proofs.layout.load.Reads as reads
-use Rattle.inter_reconstruction.proofs.layout.wide.Reads as wide-reads
 use Rattle.inter_reconstruction.proofs.layout.load.Statement.{statement}
 
 shared-slice-read-wide : tie.Need-shared-slice-read-wide

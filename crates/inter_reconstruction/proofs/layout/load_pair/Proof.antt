@@ -1,14 +1,10 @@
 -- `load_pair` meets its contract.
 -- Assumes nothing.
-use mathlib.Core.Path.{_≡_, refl, sym, ap, _∙_}
+use mathlib.Core.Path.{_∙_}
 use mir.Syntax.{w32}
 use borrow.Author.Needs.{needs}
-use Rattle.pmv.proofs.predictors.place_of.Reads as place-of-reads
-use Rattle.inter_reconstruction.proofs.layout.load.Reads as load-reads
-use Rattle.inter_reconstruction.proofs.layout.load_pair.Lts as lts
 use Rattle.inter_reconstruction.proofs.Words.{pair-at}
 use Rattle.inter_reconstruction.proofs.layout.load_pair.Statement.{statement}
-use Rattle.inter_reconstruction.proofs.layout.load_pair.Reads as reads
 use Rattle.laws.proofs.Bits.{back}
 use Rattle.inter_reconstruction.proofs.layout.load_pair.Tie as tie
 

@@ -1,15 +1,12 @@
 -- `load_predictors` meets its contract.
 -- Assumes nothing.
 use mathlib.Core.List.{[], _∷_}
-use mathlib.Core.Path.{_≡_, refl, sym, ap, _∙_}
+use mathlib.Core.Path.{_∙_}
 use mir.Syntax.{w32}
 use borrow.Author.Needs.{needs}
-use Rattle.inter_reconstruction.proofs.layout.load.Reads as load-reads
 use Rattle.inter_reconstruction.proofs.layout.load_predictors.Statement.{statement}
-use Rattle.inter_reconstruction.proofs.layout.load_predictors.Lts as lts
 use Rattle.inter_reconstruction.proofs.layout.load_predictors.Tie as tie
 use Rattle.inter_reconstruction.specs.Layout.{predictorsOf}
-use Rattle.inter_reconstruction.proofs.layout.load_predictors.Reads as reads
 use Rattle.laws.proofs.Bits.{back}
 
 load-requires : tie.Need-load-requires

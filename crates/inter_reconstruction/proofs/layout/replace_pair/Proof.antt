@@ -1,7 +1,7 @@
 -- `replace_pair` meets its contract.
 -- Assumes nothing.
 use mathlib.Core.List.{_++_}
-use mathlib.Core.Path.{_≡_, refl, sym, ap, _∙_}
+use mathlib.Core.Path.{_∙_}
 use Prim.Native.Nat.{_+_, _*_}
 use lib.ListN.{take, drop}
 use mir.Facts.{toZ-ofZ}
@@ -9,13 +9,9 @@ use mir.Syntax.{w32}
 use mir.Val.{SFits}
 use borrow.Author.Needs.{needs}
 use Rattle.inter_reconstruction.proofs.layout.replace_pair.Tie as tie
-use Rattle.pmv.proofs.predictors.place_of.Reads as place-of-reads
 use Rattle.inter_reconstruction.specs.Layout.{withPair}
-use Rattle.inter_reconstruction.proofs.layout.replace_pair.Lts as lts
-use Rattle.inter_reconstruction.proofs.layout.replace_pair.Reads as reads
 use Rattle.inter_reconstruction.proofs.layout.replace_pair.Statement.{statement}
 use Rattle.inter_reconstruction.proofs.Words.{replaced-is}
-use Rattle.inter_reconstruction.proofs.layout.store_pair.Reads as store-pair-reads
 
 fits-horizontal : (c : tie.After-struct-told) → SFits w32 (c .before .before .before .before .args .pair .horizontal)
 fits-horizontal c = search needs

@@ -1,14 +1,12 @@
 -- `signed` meets its contract.
 -- Assumes nothing.
-use mathlib.Core.Path.{_≡_, refl, sym, ap, _∙_}
+use mathlib.Core.Path.{sym}
 use native.Mathlib.Omega.{arith}
 use mir.Facts.{toZ-ofZ, toZ-pos, sfits-widen}
-use mir.Syntax.{w32, w64}
+use mir.Syntax.{w64}
 use borrow.Author.Needs.{needs}
 use Rattle.inter_reconstruction.proofs.layout.signed.Statement.{statement}
 use Rattle.inter_reconstruction.proofs.layout.signed.Tie as tie
-use Rattle.inter_reconstruction.proofs.layout.signed.Lts as lts
-use Rattle.inter_reconstruction.proofs.layout.signed.Reads as reads
 use Rattle.inter_reconstruction.proofs.Words.{high, high-fits}
 
 cast-result : tie.Need-cast-result

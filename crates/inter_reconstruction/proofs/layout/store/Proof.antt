@@ -1,14 +1,11 @@
 -- `store` meets its contract.
 -- Assumes nothing.
-use mathlib.Core.Path.{_≡_, refl, sym, ap, _∙_}
+use mathlib.Core.Path.{ap, _∙_}
 use Prim.Native.Nat.{_/_, _%_}
 use mir.Facts.{toZ-ofZ}
 use borrow.Author.Needs.{needs}
-use Rattle.inter_reconstruction.proofs.layout.store.Reads as reads
 use Rattle.inter_reconstruction.proofs.layout.store.Statement.{statement}
 use Rattle.inter_reconstruction.proofs.layout.store.Tie as tie
-use Rattle.inter_reconstruction.proofs.layout.unsigned.Reads as unsigned-reads
-use Rattle.inter_reconstruction.proofs.layout.store.Lts as lts
 use Rattle.inter_reconstruction.proofs.Words.{four-set}
 use Rattle.inter_reconstruction.specs.Layout.{wordBytes, bytesOf}
 

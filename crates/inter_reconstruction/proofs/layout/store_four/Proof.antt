@@ -1,7 +1,7 @@
 -- `store_four` meets its contract.
 -- Assumes nothing.
 use mathlib.Core.List.{_++_}
-use mathlib.Core.Path.{_≡_, refl, sym, ap, _∙_}
+use mathlib.Core.Path.{ap, _∙_}
 use native.Mathlib.Omega.{arith}
 use lib.ListN.{length}
 use mir.Facts.{toZ-ofZ}
@@ -9,10 +9,7 @@ use borrow.Author.Needs.{needs}
 use Rattle.inter_reconstruction.proofs.layout.store_four.Statement.{statement}
 use Rattle.inter_reconstruction.proofs.Words.{pair-length}
 use Rattle.inter_reconstruction.proofs.layout.store_four.Tie as tie
-use Rattle.inter_reconstruction.proofs.layout.store_four.Lts as lts
 use Rattle.inter_reconstruction.proofs.Begun.{begun-first, begun-part, begun-all, append-count}
-use Rattle.inter_reconstruction.proofs.layout.store_four.Reads as reads
-use Rattle.inter_reconstruction.proofs.layout.store_pair.Reads as store-pair-reads
 
 sub-store-pair : tie.Need-sub-store-pair
 sub-store-pair c = search needs

@@ -1,16 +1,13 @@
 -- `store_pair` meets its contract.
 -- Assumes nothing.
 use mathlib.Core.List.{_++_}
-use mathlib.Core.Path.{_≡_, refl, sym, ap, _∙_}
+use mathlib.Core.Path.{ap, _∙_}
 use native.Mathlib.Omega.{arith}
 use lib.ListN.{length}
 use mir.Facts.{toZ-ofZ}
 use borrow.Author.Needs.{needs}
-use Rattle.inter_reconstruction.proofs.layout.store.Reads as store-reads
 use Rattle.inter_reconstruction.proofs.layout.store_pair.Statement.{statement}
-use Rattle.inter_reconstruction.proofs.layout.store_pair.Reads as reads
 use Rattle.inter_reconstruction.proofs.layout.store_pair.Tie as tie
-use Rattle.inter_reconstruction.proofs.layout.store_pair.Lts as lts
 use Rattle.inter_reconstruction.proofs.Words.{bytes-length}
 use Rattle.inter_reconstruction.proofs.Begun.{begun-first, begun-part, begun-all, append-count}
 

@@ -1,7 +1,7 @@
 -- `store_predictors` meets its contract.
 -- Assumes nothing.
 use mathlib.Core.List.{_++_}
-use mathlib.Core.Path.{_≡_, refl, sym, ap, _∙_}
+use mathlib.Core.Path.{_≡_, ap, _∙_}
 use Prim.Native.Nat.{ℕ}
 use native.Mathlib.Omega.{arith}
 use lib.IntN.{ℤ, pos}
@@ -9,12 +9,9 @@ use lib.ListN.{length, getD}
 use mir.Syntax.{w32}
 use borrow.Author.Needs.{needs}
 use Rattle.inter_reconstruction.specs.Layout.{pairBytes}
-use Rattle.inter_reconstruction.proofs.layout.store_four.Reads as store-four-reads
 use Rattle.inter_reconstruction.proofs.Begun.{begun-first, begun-part, begun-all, append-count}
 use Rattle.laws.proofs.Bits.{back}
 use Rattle.inter_reconstruction.proofs.Words.{four-length, eight-bytes}
-use Rattle.inter_reconstruction.proofs.layout.store_predictors.Reads as reads
-use Rattle.inter_reconstruction.proofs.layout.store_predictors.Lts as lts
 use Rattle.inter_reconstruction.proofs.layout.store_predictors.Statement.{statement}
 use Rattle.inter_reconstruction.proofs.layout.store_predictors.Tie as tie
 

@@ -1,16 +1,13 @@
 -- `unsigned` meets its contract.
 -- Assumes nothing.
 use mathlib.Core.Bool.{true, false}
-use mathlib.Core.Path.{_≡_, refl, sym, ap, _∙_}
+use mathlib.Core.Path.{_≡_}
 use lib.IntN.{pos}
 use lib.Signed.{ltZ}
 use mir.Facts.{fits-ofZ}
 use mir.Facts.{toZ-ofZ, sfits-widen}
-use mir.Syntax.{w32}
-use Rattle.inter_reconstruction.proofs.layout.unsigned.Reads as reads
 use Rattle.laws.proofs.Bits.{widened}
 use Rattle.inter_reconstruction.proofs.layout.unsigned.Tie as tie
-use Rattle.inter_reconstruction.proofs.layout.unsigned.Lts as lts
 use Rattle.inter_reconstruction.proofs.Words.{low, low-fits, plain, plain-word, word-is}
 use Rattle.inter_reconstruction.proofs.layout.unsigned.Statement.{statement}
 

@@ -1,12 +1,11 @@
 -- `answer_of` meets its contract.
 -- Assumes nothing.
-use borrow.Author.Needs.{needs}
 use Rattle.inter_reconstruction.proofs.Checks.{refused-answer}
 use Rattle.inter_reconstruction.proofs.macroblock.answer_of.Tie as tie
 use Rattle.inter_reconstruction.proofs.macroblock.answer_of.Statement.{statement}
 
 returns : tie.Need-returns
-returns c = search needs
+returns c = rw (c .if1 .taken)
 
 returns-2 : tie.Need-returns-2
 returns-2 c = refused-answer (c .before .args .number) (c .if1 .left)

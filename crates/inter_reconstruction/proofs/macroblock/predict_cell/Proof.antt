@@ -1,5 +1,6 @@
 -- `predict_cell` meets its contract.
 -- Assumes nothing.
+use mathlib.Core.Bool.{true, _||_}
 use mathlib.Core.Path.{_≡_, refl, sym, _∙_}
 use Prim.Native.Nat.{_+_, _*_, _≤_}
 use native.Mathlib.Omega.{arith}
@@ -7,6 +8,7 @@ use lib.ListN.{length}
 use borrow.Author.Needs.{needs}
 use borrow.Author.Tests.{eq-eqb, ne-eqb}
 use Rattle.inter_reconstruction.proofs.Cells.{chroma-small}
+use Rattle.inter_reconstruction.specs.Refusals.{tooFar}
 use Rattle.inter_reconstruction.specs.Components.{macroblockBytes}
 use Rattle.inter_reconstruction.proofs.Checks.{cell-fits, bytes-are}
 use Rattle.inter_reconstruction.proofs.macroblock.predict_cell.Tie as tie
@@ -14,6 +16,9 @@ use Rattle.inter_reconstruction.proofs.macroblock.predict_cell.Statemen
 
 abbrev start : tie.After-chroma-mb-extent → tie.Start
 start c = c .before .before .before .before .before .before .before .before .before
+
+far : (c : tie.Then1) → (let a = c .before .before .before .before .before .before .before .before .args in (tooFar (a .mb-col) || tooFar (a .mb-row)) ≡ true)
+far c = c .if1 .taken
 
 small : (c : tie.After-chroma-mb-extent) → (let s = c .chroma-mb-extent .result in s .width * s .height ≤ 256)
 small c = chroma-small (start c .args .dest .«chroma_format») _ _ (c .chroma-mb-extent .ensures .0) (c .chroma-mb-extent .ensures .1)
@@ -23,7 +28,7 @@ bytes : (c : tie.After-chroma-mb-extent)
 bytes c = bytes-are (start c .args .dest .«chroma_format») _ _ (c .chroma-mb-extent .ensures .0) (c .chroma-mb-extent .ensures .1)
 
 returns : tie.Need-returns
-returns c = rw (c .if1 .taken) (refl, refl)
+returns c = rw (far c) (refl, refl)
 
 chroma-mb-extent-requires : tie.Need-chroma-mb-extent-requires
 chroma-mb-extent-requires c κs = search needs
