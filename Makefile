@@ -1,4 +1,7 @@
-# make                 build the demonstration, proved, and run it
+# make                 build the static library, proved, and the C example over it; run the example and see that it
+#                      prints what it should
+# make example-check   the same with each of gcc and clang, as C and as C++, and under valgrind, where they are installed
+# make demonstration   build the Rattle program that shows the layers one by one, proved, and run it
 # make test            the gate: prove everything from nothing, try the must-fail edits, run the programs
 # make differential    build the Rust original and see that the lists in the repository are its answers
 # make lists           make those lists anew
@@ -9,9 +12,46 @@
 RT ?= rt
 CARGO ?= cargo
 
-.PHONY: all test differential lists bench clean
+LIBRARY = target/staticlib/libinter_reconstruction.a
+EXAMPLE = examples/c/example.c
+EXPECTED = examples/c/expected.txt
+C_FLAGS = -O2 -Wall -Wextra -Wpedantic -Werror -Iinclude
 
-all:
+# what the library is made of, since rt staticlib proves its last crate anew each time it is asked
+LAYERS = laws combine_predictions forming_predictions pmv inter_reconstruction
+SOURCES := crates.txt $(shell find $(LAYERS:%=crates/%) -name '*.rt' -o -name '*.antt')
+
+.PHONY: all example-check demonstration test differential lists bench clean
+
+all: $(LIBRARY)
+	@mkdir -p build
+	@$(CC) -std=c99 $(C_FLAGS) $(EXAMPLE) $(LIBRARY) -o build/example
+	@build/example >build/example.txt
+	@cat build/example.txt
+	@diff $(EXPECTED) build/example.txt && echo "as $(EXPECTED) has it"
+
+$(LIBRARY): $(SOURCES)
+	@mkdir -p build
+	@echo "proving and building $(LIBRARY), which takes some minutes"
+	@$(RT) staticlib inter_reconstruction >build/library.log 2>&1 || { tail -n 40 build/library.log; exit 1; }
+
+example-check: $(LIBRARY)
+	@mkdir -p build
+	@nm -u $(LIBRARY) | awk '$$1 == "U" && $$2 != "memcpy" && $$2 != "memset" { print "the library needs " $$2; bad = 1 } END { exit bad }'
+	@echo "the library needs nothing but memcpy and memset"
+	@for compiler in 'gcc -std=c99' 'clang -std=c99' 'g++ -std=c++11 -x c++' 'clang++ -std=c++11 -x c++'; do \
+		command -v $${compiler%% *} >/dev/null || { echo "$${compiler%% *} is not installed"; continue; }; \
+		$$compiler $(C_FLAGS) $(EXAMPLE) -x none $(LIBRARY) -o build/example || exit 1; \
+		build/example >build/example.txt || exit 1; \
+		diff $(EXPECTED) build/example.txt || exit 1; \
+		echo "$$compiler: no warning, and as $(EXPECTED) has it"; \
+	done
+	@command -v valgrind >/dev/null || { echo "valgrind is not installed"; exit 0; }; \
+		$(CC) -std=c99 -g $(C_FLAGS) $(EXAMPLE) $(LIBRARY) -o build/example || exit 1; \
+		valgrind -q --error-exitcode=1 --leak-check=full build/example >build/example.txt || exit 1; \
+		diff $(EXPECTED) build/example.txt && echo "valgrind: no error"
+
+demonstration:
 	@mkdir -p build
 	@$(RT) check demonstration >build/check.log 2>&1 || { tail -n 40 build/check.log; exit 1; }
 	@target/bin/demonstration
