@@ -1,6 +1,7 @@
 # make                 build the static library, proved, and the C example over it; run the example and see that it
 #                      prints what it should
-# make example-check   the same with each of gcc and clang, as C and as C++, and under valgrind, where they are installed
+# make example-check   the same with each of gcc and clang, as C and as C++, and under valgrind, where they are installed;
+#                      and see that the header declares what the library exports
 # make demonstration   build the Rattle program that shows the layers one by one, proved, and run it
 # make test            the gate: prove everything from nothing, try the must-fail edits, run the programs
 # make differential    build the Rust original and see that the lists in the repository are its answers
@@ -21,7 +22,7 @@ C_FLAGS = -O2 -Wall -Wextra -Wpedantic -Werror -Iinclude
 LAYERS = laws combine_predictions forming_predictions pmv inter_reconstruction
 SOURCES := crates.txt $(shell find $(LAYERS:%=crates/%) -name '*.rt' -o -name '*.antt')
 
-.PHONY: all example-check demonstration test differential lists bench clean
+.PHONY: all declarations example-check demonstration test differential lists bench clean
 
 all: $(LIBRARY)
 	@mkdir -p build
@@ -35,8 +36,13 @@ $(LIBRARY): $(SOURCES)
 	@echo "proving and building $(LIBRARY), which takes some minutes"
 	@$(RT) staticlib inter_reconstruction >build/library.log 2>&1 || { tail -n 40 build/library.log; exit 1; }
 
-example-check: $(LIBRARY)
+declarations:
 	@mkdir -p build
+	@awk -f examples/c/declarations.awk crates/inter_reconstruction/src/*.rt | sort >build/exported.txt
+	@awk -f examples/c/declarations.awk include/fozdrik.h | sort >build/declared.txt
+	@diff build/exported.txt build/declared.txt && echo "the header declares what the library exports"
+
+example-check: declarations $(LIBRARY)
 	@nm -u $(LIBRARY) | awk '$$1 == "U" && $$2 != "memcpy" && $$2 != "memset" { print "the library needs " $$2; bad = 1 } END { exit bad }'
 	@echo "the library needs nothing but memcpy and memset"
 	@for compiler in 'gcc -std=c99' 'clang -std=c99' 'g++ -std=c++11 -x c++' 'clang++ -std=c++11 -x c++'; do \
