@@ -5,9 +5,11 @@
 // The files name the crate `oxideav_core`; its one item they use is a shim here.
 extern crate self as oxideav_core;
 
+pub mod macroblocks;
 pub mod refusals;
 pub mod rng;
 mod shims;
+pub mod vectors;
 
 // The shims stand where the files look for the originals: at the crate's root.
 pub use shims::*;

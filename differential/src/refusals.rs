@@ -1,8 +1,22 @@
-//! Document 01's numbers for the original's refusals: of vectors and updates, which are texts, and
-//! of macroblocks.
+//! Document 01's numbers: for the original's refusals of vectors and updates, which are texts, and
+//! of macroblocks; and those that document 01 adds.
 
 use crate::Error;
 use crate::inter_reconstruction::InterError;
+
+/// The number of a call that does not refuse.
+pub const ACCEPTED: u8 = 0;
+/// Added: a code outside -16..16.
+pub const CODE_OUTSIDE: u8 = 2;
+/// Added: a column or a row over 1023.
+pub const CELL_TOO_FAR: u8 = 13;
+/// Added: planes that document 01 does not take. The original cannot have those of the wrong
+/// length, and takes those with a large side.
+pub const OUTSIDE_DOMAIN: u8 = 14;
+/// Added: an output of the wrong length.
+pub const OUTPUT_LENGTH: u8 = 18;
+/// Added: a number from C that has no meaning.
+pub const NO_MEANING: u8 = 38;
 
 /// The original's texts, with the numbers.
 const NUMBERS: [(&str, u8); 12] = [

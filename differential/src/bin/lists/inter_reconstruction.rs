@@ -7,14 +7,13 @@ use std::iter;
 
 use oracle::dual_prime::FieldParity;
 use oracle::inter_reconstruction::{FieldBasedMotion, FieldVector, FrameMotion, MotionVectorPel};
+use oracle::macroblocks::{Geometry, LARGEST_SIDE, LAST_CELL, Motion, Sides, macroblock_length};
+use oracle::pmv::Direction;
 use oracle::rng::Rng;
 use oracle::sequence_extension::ChromaFormat;
 
 use crate::list::{ACCEPTED, List, ORIGINAL};
-use cases::{
-    Direction, Geometry, LARGEST_SIDE, LAST_CELL, Motion, Planes, Prediction, Request, Sides,
-    macroblock_length,
-};
+use cases::{Planes, Prediction, Request};
 
 const SEED: u64 = 766;
 

@@ -5,14 +5,11 @@ use std::iter;
 
 use oracle::rng::Rng;
 
+pub use oracle::refusals::{ACCEPTED, OUTPUT_LENGTH};
+
 /// Where the original's files are from.
 pub const ORIGINAL: &str =
     "OxideAV/oxideav-mpeg12video at commit 57648ece95, tests and some items cut";
-
-/// Document 01's number for a call that does not refuse.
-pub const ACCEPTED: u8 = 0;
-/// Document 01's number for an output of the wrong length.
-pub const OUTPUT_LENGTH: u8 = 18;
 
 /// No byte string of a list is longer: the replay programs may rely on it.
 const LONGEST: usize = 1024;

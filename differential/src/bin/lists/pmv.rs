@@ -9,13 +9,15 @@ use std::ops::RangeInclusive;
 use oracle::macroblock_modes::{MvFormat, PredictionType};
 use oracle::picture_header::{PictureCodingType, PictureStructure};
 use oracle::pmv::{Component, Direction, Pmv, PmvUpdateContext, VectorIndex, vector_range};
+use oracle::refusals::CODE_OUTSIDE;
 use oracle::rng::Rng;
 use oracle::sequence_extension::ChromaFormat;
+use oracle::vectors::{CODES, Coded, Mode, Vector};
 
 use crate::list::{ACCEPTED, List, ORIGINAL};
 use cases::{
-    Answer, CODE_OUTSIDE, CODES, ChromaScaling, Coded, Decoding, Delta, Fresh, GetAndSet, Limits,
-    Mode, Place, Reconstruction, Reset, SpatialReset, Update, Vector, VectorReconstruction, number,
+    Answer, ChromaScaling, Decoding, Delta, Fresh, GetAndSet, Limits, Place, Reconstruction, Reset,
+    SpatialReset, Update, VectorReconstruction, number,
 };
 
 const SEED: u64 = 765;

@@ -1,31 +1,17 @@
 //! The lines of the vector list: each asks the original, and document 01 for the number 2.
 
 use std::fmt::{self, Display};
-use std::ops::RangeInclusive;
 
-use oracle::Error;
-use oracle::macroblock_modes::{MvFormat, PredictionType};
-use oracle::motion_vector::MotionVector;
-use oracle::picture_header::{PictureCodingType, PictureStructure};
+use oracle::macroblock_modes::PredictionType;
+use oracle::picture_header::PictureCodingType;
 use oracle::pmv::{
     Component, Direction, Pmv, PmvUpdateContext, ReconstructedComponent, VectorIndex,
-    apply_spatial_temporal_reset, compute_delta, decode_motion_vector, reconstruct_component,
-    reconstruct_motion_vector, scale_chroma, update_predictors, vector_range,
+    apply_spatial_temporal_reset, compute_delta, decode_motion_vector, scale_chroma, vector_range,
 };
-use oracle::refusals;
 use oracle::sequence_extension::ChromaFormat;
+use oracle::vectors::{Coded, Mode, Vector, component, refusal, update};
 
 use crate::list::ACCEPTED;
-
-/// Document 01's codes.
-pub const CODES: RangeInclusive<i32> = -16..=16;
-/// Document 01's number for any other code, which the original takes.
-pub const CODE_OUTSIDE: u8 = 2;
-
-/// Document 01's number for a refusal of the original. Stops at one that has none.
-fn refusal(error: Error) -> u8 {
-    refusals::number(error).unwrap_or_else(|cause| panic!("{cause}"))
-}
 
 /// Numbers as the lists write them.
 struct Numbers<'a>(&'a [i32]);
@@ -75,33 +61,6 @@ fn values(component: ReconstructedComponent) -> [i32; 4] {
     [vector_prime, new_pmv, delta, range]
 }
 
-/// What is coded of a component, and the f_code that it is read by.
-#[derive(Clone, Copy)]
-pub struct Coded {
-    pub code: i32,
-    pub residual: Option<u8>,
-    pub f_code: u8,
-}
-
-impl Coded {
-    /// Document 01's refusal 2: after 1, and before all that the original refuses else.
-    fn within_codes(self) -> Result<(), u8> {
-        if vector_range(self.f_code).is_ok() && !CODES.contains(&self.code) {
-            return Err(CODE_OUTSIDE);
-        }
-        Ok(())
-    }
-}
-
-/// Without the f_code.
-impl Display for Coded {
-    fn fmt(&self, f: &mut fmt::Formatter<'_>) -> fmt::Result {
-        let present = u8::from(self.residual.is_some());
-        let residual = self.residual.unwrap_or(0);
-        write!(f, "{} {present} {residual}", self.code)
-    }
-}
-
 /// A line of kind 1.
 pub struct Delta {
     coded: Coded,
@@ -147,36 +106,6 @@ impl Display for Limits {
     fn fmt(&self, f: &mut fmt::Formatter<'_>) -> fmt::Result {
         write!(f, "2 {} {}", self.f_code, Answered(&self.answer))
     }
-}
-
-/// What the halving depends on beside the component.
-#[derive(Clone, Copy, PartialEq)]
-pub struct Mode {
-    pub format: MvFormat,
-    pub structure: PictureStructure,
-}
-
-impl Display for Mode {
-    fn fmt(&self, f: &mut fmt::Formatter<'_>) -> fmt::Result {
-        write!(f, "{} {}", self.format as u8, self.structure as u8)
-    }
-}
-
-fn component(
-    coded: Coded,
-    prior: i32,
-    mode: Mode,
-    t: Component,
-) -> Result<ReconstructedComponent, u8> {
-    coded.within_codes()?;
-    let Coded {
-        code,
-        residual,
-        f_code,
-    } = coded;
-    let Mode { format, structure } = mode;
-    let residual = residual.map(u32::from);
-    reconstruct_component(code, residual, f_code, prior, format, structure, t).map_err(refusal)
 }
 
 /// A line of kind 3.
@@ -273,68 +202,6 @@ impl Display for Decoding {
     }
 }
 
-/// A vector to reconstruct, and which.
-#[derive(Clone, Copy)]
-pub struct Vector {
-    pub r: VectorIndex,
-    pub s: Direction,
-    pub horizontal: Coded,
-    pub vertical: Coded,
-    pub mode: Mode,
-}
-
-type Components = Result<[ReconstructedComponent; 2], u8>;
-
-impl Vector {
-    /// Both components, the predictors updated: the original's call. The codes are document 01's.
-    fn reconstruct(self, pmv: &mut Pmv) -> Components {
-        let Self { r, s, mode, .. } = self;
-        let [horizontal, vertical] = [self.horizontal, self.vertical];
-        let byte = |code| i8::try_from(code).expect("document 01's codes are bytes");
-        let parsed = MotionVector {
-            motion_code_horiz: byte(horizontal.code),
-            motion_residual_horiz: horizontal.residual,
-            dmvector_horiz: None,
-            motion_code_vert: byte(vertical.code),
-            motion_residual_vert: vertical.residual,
-            dmvector_vert: None,
-            bit_position_after: 0,
-        };
-        let [f_horizontal, f_vertical] = [horizontal.f_code, vertical.f_code];
-        let Mode { format, structure } = mode;
-        reconstruct_motion_vector(
-            pmv,
-            &parsed,
-            r,
-            s,
-            f_horizontal,
-            f_vertical,
-            format,
-            structure,
-        )
-        .map_err(refusal)
-    }
-
-    /// The same for all codes, as document 01 composes it of the components.
-    fn compose(self, pmv: &mut Pmv) -> Components {
-        let horizontal = self.store(pmv, self.horizontal, Component::Horizontal)?;
-        let vertical = self.store(pmv, self.vertical, Component::Vertical)?;
-        Ok([horizontal, vertical])
-    }
-
-    fn store(
-        self,
-        pmv: &mut Pmv,
-        coded: Coded,
-        t: Component,
-    ) -> Result<ReconstructedComponent, u8> {
-        let Self { r, s, mode, .. } = self;
-        let part = component(coded, pmv.get(r, s, t), mode, t)?;
-        pmv.set(r, s, t, part.new_pmv);
-        Ok(part)
-    }
-}
-
 /// A line of kind 5.
 pub struct VectorReconstruction {
     before: Pmv,
@@ -345,15 +212,7 @@ pub struct VectorReconstruction {
 
 impl VectorReconstruction {
     pub fn ask(before: Pmv, vector: Vector) -> Self {
-        let mut after = before;
-        let mut answer = vector.compose(&mut after);
-        let [horizontal, vertical] = [vector.horizontal, vector.vertical];
-        if CODES.contains(&horizontal.code) && CODES.contains(&vertical.code) {
-            let composed = (answer, after);
-            after = before;
-            answer = vector.reconstruct(&mut after);
-            assert_eq!(composed, (answer, after), "document 01 composes otherwise");
-        }
+        let (answer, after) = vector.ask(before);
         let values = answer.map(|[horizontal, vertical]| {
             let [a, b, c, d] = values(horizontal);
             let [e, f, g, h] = values(vertical);
@@ -437,8 +296,7 @@ pub struct Update {
 
 impl Update {
     pub fn ask(before: Pmv, context: PmvUpdateContext) -> Self {
-        let mut after = before;
-        let answer = update_predictors(&mut after, context).map_err(refusal);
+        let (answer, after) = update(before, context);
         Self {
             before,
             context,
