@@ -1,6 +1,6 @@
 //! Writes `oracle.rs`, the declarations that make the ten files of the original
 //! modules of the library. They are compiled where they lie: neither copied nor edited.
-//! With the feature `bench`, hands the port's libraries to the linker.
+//! With the feature `bench` or `compare`, hands the port's libraries to the linker.
 
 use std::env;
 use std::error::Error;
@@ -16,8 +16,31 @@ const ORIGINAL_DEFAULT: &str = "../shared/docs/src";
 
 /// Names the folder that holds the port's libraries.
 const LIBRARY: &str = "FOZDRIK_LIBRARY";
-const LIBRARY_DEFAULT: &str = "build/bench";
-const LIBRARY_FILES: [&str; 2] = ["libbench_blocks.a", "libbench_pmv.a"];
+
+/// A binary that is linked with libraries of the port. Its feature has its name.
+struct Linked {
+    binary: &'static str,
+    /// How cargo tells this program of the feature.
+    feature: &'static str,
+    /// Where the libraries are if the variable is not set.
+    default: &'static str,
+    files: &'static [&'static str],
+}
+
+const LINKED: [Linked; 2] = [
+    Linked {
+        binary: "bench",
+        feature: "CARGO_FEATURE_BENCH",
+        default: "build/bench",
+        files: &["libbench_blocks.a", "libbench_pmv.a"],
+    },
+    Linked {
+        binary: "compare",
+        feature: "CARGO_FEATURE_COMPARE",
+        default: "target/staticlib",
+        files: &["libinter_reconstruction.a"],
+    },
+];
 
 const MODULES: [&str; 10] = [
     "combine_predictions",
@@ -62,20 +85,26 @@ fn write_declarations() -> Result<(), Box<dyn Error>> {
 }
 
 fn link_libraries() -> Result<(), Box<dyn Error>> {
-    if env::var_os("CARGO_FEATURE_BENCH").is_none() {
-        return Ok(());
+    for linked in LINKED {
+        if env::var_os(linked.feature).is_some() {
+            link(&linked)?;
+        }
     }
-    let (given, folder) = folder(LIBRARY, LIBRARY_DEFAULT)?;
-    for name in LIBRARY_FILES {
+    Ok(())
+}
+
+fn link(linked: &Linked) -> Result<(), Box<dyn Error>> {
+    let (given, folder) = folder(LIBRARY, linked.default)?;
+    for name in linked.files {
         let file = there(&folder.join(name)).map_err(|cause| {
             format!(
                 "a library of the port is not there: {cause}. Set {LIBRARY} to the folder that \
                  holds {} (now {given:?}; a relative path starts at the root of the repository)",
-                LIBRARY_FILES.join(" and "),
+                linked.files.join(" and "),
             )
         })?;
         // The binary alone: a library that cargo links goes into `oracle`, and so into `lists`.
-        println!("cargo::rustc-link-arg-bin=bench={file}");
+        println!("cargo::rustc-link-arg-bin={}={file}", linked.binary);
     }
     Ok(())
 }

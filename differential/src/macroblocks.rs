@@ -41,8 +41,10 @@ impl Sides {
             return Plane::new(0, 0);
         }
         let mut plane = Plane::new(self.width, self.height);
-        for (place, sample) in samples.iter().enumerate() {
-            plane.put_sample(place % self.width, place / self.width, *sample);
+        for (y, row) in samples.chunks(self.width.max(1)).enumerate() {
+            for (x, sample) in row.iter().enumerate() {
+                plane.put_sample(x, y, *sample);
+            }
         }
         plane
     }
