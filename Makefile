@@ -4,7 +4,8 @@
 #                      and see that the header declares what the library exports
 # make demonstration   build the Rattle program that shows the layers one by one, proved, and run it
 # make test            the gate: prove everything from nothing, try the must-fail edits, run the programs
-# make differential    build the Rust original and see that the lists in the repository are its answers
+# make differential    build the Rust original, see that the lists in the repository are its answers, and compare the
+#                      library with it, call by call through C, by the million; SEED=N and COUNT=N draw other cases or more
 # make lists           make those lists anew
 # make bench           measure the port beside the Rust original, and print tables
 # The last three need cargo and the Rust original. FOZDRIK_RUST is the folder that holds its LICENSE and src/, by default
@@ -22,7 +23,7 @@ C_FLAGS = -O2 -Wall -Wextra -Wpedantic -Werror -Iinclude
 LAYERS = laws combine_predictions forming_predictions pmv inter_reconstruction
 SOURCES := crates.txt $(shell find $(LAYERS:%=crates/%) -name '*.rt' -o -name '*.antt')
 
-.PHONY: all declarations example-check demonstration test differential lists bench clean
+.PHONY: all declarations example-check demonstration test differential lists-check compare lists bench clean
 
 all: $(LIBRARY)
 	@mkdir -p build
@@ -65,8 +66,16 @@ demonstration:
 test:
 	@.ci/run
 
-differential:
+COMPARE = cd differential && $(CARGO) run --release --offline --features compare --bin compare --
+
+differential: lists-check compare
+
+lists-check:
 	cd differential && $(CARGO) run --release --offline --bin lists -- --check
+
+compare: $(LIBRARY)
+	$(COMPARE) --wrong
+	$(COMPARE) $(if $(SEED),--seed $(SEED)) $(if $(COUNT),--count $(COUNT))
 
 lists:
 	cd differential && $(CARGO) run --release --offline --bin lists

@@ -29,7 +29,7 @@ pub enum Around {
 }
 
 /// A place of a buffer that can be made wrong.
-#[derive(Debug, Clone, Copy)]
+#[derive(Clone, Copy)]
 pub enum Place {
     Before,
     Within,

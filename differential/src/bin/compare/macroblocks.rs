@@ -54,8 +54,8 @@ impl Macroblocks {
         Ok(())
     }
 
-    pub fn cases(&self) -> u64 {
-        self.run.cases()
+    pub fn run(&self) -> &Run {
+        &self.run
     }
 
     pub fn tables(&self) -> Vec<&Table> {
@@ -87,9 +87,9 @@ impl Macroblocks {
 
     /// Compares a case, and gives the answer.
     fn compare_one(&mut self, scene: &mut Scene, case: &Case) -> Result<u8, String> {
-        self.run.count();
         let expected = self.expected(scene, case);
         let number = expected.as_ref().err().copied().unwrap_or(ACCEPTED);
+        self.run.count(number);
         // No byte is what it should become, so that each one that is not written shows.
         let before: Vec<u8> = match &expected {
             Ok(formed) => formed.iter().map(|sample| !sample).collect(),

@@ -119,8 +119,13 @@ impl Comparisons {
             .map_err(|what| format!("fozdrik_predict_field_macroblock, {what}"))
     }
 
-    fn cases(&self) -> u64 {
-        self.vectors.cases() + self.updates.cases() + self.frame.cases() + self.field.cases()
+    fn runs(&self) -> [&Run; 4] {
+        [
+            self.vectors.run(),
+            self.updates.run(),
+            self.frame.run(),
+            self.field.run(),
+        ]
     }
 
     fn tables(&self) -> Vec<&Table> {
@@ -159,7 +164,12 @@ fn run(options: &Options) -> Result<bool, String> {
     for gap in &gaps {
         println!("{gap}");
     }
-    println!("all {} cases agree", comparisons.cases());
+    let total = |count: fn(&Run) -> u64| comparisons.runs().into_iter().map(count).sum::<u64>();
+    println!(
+        "all {} cases agree, {} of them refused by document 01 alone",
+        total(Run::cases),
+        total(Run::added),
+    );
     Ok(gaps.is_empty())
 }
 
@@ -183,7 +193,7 @@ fn notices_what_is_wrong(options: &Options) -> bool {
             for (result, case) in results.iter().zip(["accepted", "refused"]) {
                 let what = match wrong {
                     None => "nothing wrong".to_owned(),
-                    Some(wrong) => format!("{wrong:?} wrong"),
+                    Some(wrong) => format!("{wrong} made wrong"),
                 };
                 let noticed = result.as_ref().err().map(|text| text.lines().next());
                 let said = noticed.flatten().unwrap_or("agree");

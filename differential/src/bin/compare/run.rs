@@ -1,8 +1,10 @@
 //! What the comparisons of the four calls share.
 
+use std::fmt::{self, Display};
 use std::io::{self, IsTerminal, Write};
 use std::time::{Duration, Instant};
 
+use oracle::refusals::{CELL_TOO_FAR, CODE_OUTSIDE, NO_MEANING, OUTPUT_LENGTH, OUTSIDE_DOMAIN};
 use oracle::rng::Rng;
 
 use crate::lent::{Around, OFFSETS, Place};
@@ -10,9 +12,18 @@ use crate::lent::{Around, OFFSETS, Place};
 /// What a disagreement is: what differs, and the whole input.
 pub type Comparison = Result<(), String>;
 
+/// The refusals that document 01 adds, and of which the original cannot be asked.
+const ADDED: [u8; 5] = [
+    NO_MEANING,
+    CODE_OUTSIDE,
+    CELL_TOO_FAR,
+    OUTPUT_LENGTH,
+    OUTSIDE_DOMAIN,
+];
+
 /// Something that is made wrong after the port's call, so that it is seen whether the comparison
 /// notices.
-#[derive(Debug, Clone, Copy)]
+#[derive(Clone, Copy)]
 pub enum Wrong {
     /// The number that the call returns.
     Answer,
@@ -20,6 +31,22 @@ pub enum Wrong {
     Result(Place),
     /// The predictors, or a plane of a reference, which is only read.
     Other(Place),
+}
+
+impl Display for Wrong {
+    fn fmt(&self, f: &mut fmt::Formatter<'_>) -> fmt::Result {
+        let (place, buffer) = match self {
+            Self::Answer => return f.write_str("the answer"),
+            Self::Result(place) => (place, "the result"),
+            Self::Other(place) => (place, "the predictors or a plane"),
+        };
+        let place = match place {
+            Place::Before => "before",
+            Place::Within => "of",
+            Place::Behind => "behind",
+        };
+        write!(f, "a byte {place} {buffer}")
+    }
 }
 
 /// The numbers that C passes and that have no meaning for any argument, also such as 1, 8 or 16
@@ -46,6 +73,7 @@ pub struct Run {
     pub wrong: Option<Wrong>,
     name: &'static str,
     cases: u64,
+    added: u64,
     start: Instant,
     shown: Instant,
     terminal: bool,
@@ -60,6 +88,7 @@ impl Run {
             wrong: None,
             name,
             cases: 0,
+            added: 0,
             start,
             shown: start,
             terminal: io::stderr().is_terminal(),
@@ -75,10 +104,16 @@ impl Run {
         self.start = Instant::now();
     }
 
-    /// Counts a case, and shows how far the run is, where somebody looks on.
-    pub fn count(&mut self) {
+    pub fn added(&self) -> u64 {
+        self.added
+    }
+
+    /// Counts a case by the answer that is right, and shows how far the run is, where somebody
+    /// looks on.
+    pub fn count(&mut self, answer: u8) {
         const EACH: Duration = Duration::from_millis(500);
         self.cases += 1;
+        self.added += u64::from(ADDED.contains(&answer));
         if self.terminal && self.cases.is_multiple_of(1024) && self.shown.elapsed() >= EACH {
             self.shown = Instant::now();
             eprint!("\r{}: {} cases", self.name, self.cases);
@@ -92,9 +127,10 @@ impl Run {
             eprint!("\r\x1b[K");
         }
         println!(
-            "{}: {} cases agree, {:.1} s",
+            "{}: {} cases agree, {} of them refused by document 01 alone; {:.1} s",
             self.name,
             self.cases,
+            self.added,
             self.start.elapsed().as_secs_f64(),
         );
     }

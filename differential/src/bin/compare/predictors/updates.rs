@@ -182,8 +182,8 @@ impl Updates {
         Ok(())
     }
 
-    pub fn cases(&self) -> u64 {
-        self.run.cases()
+    pub fn run(&self) -> &Run {
+        &self.run
     }
 
     pub fn tables(&self) -> [&Table; 4] {
@@ -219,10 +219,10 @@ impl Updates {
     }
 
     fn compare_one(&mut self, case: &Case) -> Comparison {
-        self.run.count();
         let lengths = [case.predictors_length, case.outcome_length];
         self.buffers.fill(&mut self.run, &case.predictors, lengths);
         let expected = self.expected(case);
+        self.run.count(expected.answer);
         let answer = self.call(case);
         self.buffers
             .check(self.run.wrong, answer, &expected)

@@ -9,7 +9,7 @@ use oracle::vectors::{CODES, Coded, Mode, Vector};
 use super::{Buffers, Expected, PREDICTORS, PREDICTORS_LENGTHS, Predictors, bytes, pmv as record};
 use crate::coverage::Table;
 use crate::port::fozdrik_reconstruct_motion_vector;
-use crate::run::{Comparison, Run, without_meaning};
+use crate::run::{Comparison, Run, Wrong, without_meaning};
 
 /// The right length of the vector's buffer.
 const VECTOR: usize = 8;
@@ -305,8 +305,8 @@ impl Vectors {
         Ok(())
     }
 
-    pub fn cases(&self) -> u64 {
-        self.run.cases()
+    pub fn run(&self) -> &Run {
+        &self.run
     }
 
     pub fn tables(&self) -> [&Table; 4] {
@@ -320,7 +320,7 @@ impl Vectors {
     }
 
     /// An accepted case and a refused one, for `--wrong`.
-    pub fn compare_two(&mut self, wrong: Option<crate::run::Wrong>) -> [Comparison; 2] {
+    pub fn compare_two(&mut self, wrong: Option<Wrong>) -> [Comparison; 2] {
         self.run.wrong = wrong;
         let accepted = self.draw_accepted();
         let mut refused = accepted;
@@ -329,10 +329,10 @@ impl Vectors {
     }
 
     fn compare_one(&mut self, case: &Case) -> Comparison {
-        self.run.count();
         let lengths = [case.predictors_length, case.vector_length];
         self.buffers.fill(&mut self.run, &case.predictors, lengths);
         let expected = self.expected(case);
+        self.run.count(expected.answer);
         let answer = self.call(case);
         self.buffers
             .check(self.run.wrong, answer, &expected)
