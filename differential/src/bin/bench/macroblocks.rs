@@ -85,8 +85,13 @@ impl Macroblocks {
         table.print_head(
             "Macroblocks",
             &format!(
-                "pictures of {WIDTH} × {HEIGHT} drawn samples, drawn macroblocks and vectors, of \
-                 which each of the four half patterns has a quarter.",
+                "pictures of {WIDTH} × {HEIGHT} drawn samples, drawn macroblocks and vectors; each \
+                 of a macroblock's vectors has each of the four half patterns in a quarter of the \
+                 calls. Inside, all that is read of all components lies inside; at the edges, \
+                 every block of a macroblock reaches past the same one or two edges. The original \
+                 is called as Rust calls Rust, and returns three new vectors, which to allocate \
+                 and free is part of its call, as are those that it makes on the way; Fozdrik is \
+                 called through C, with some fifty numbers, and writes to a lent buffer.",
             ),
         );
         for format in &self.formats {
