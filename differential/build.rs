@@ -32,7 +32,11 @@ const LINKED: [Linked; 2] = [
         binary: "bench",
         feature: "CARGO_FEATURE_BENCH",
         default: "build/bench",
-        files: &["libbench_blocks.a", "libbench_pmv.a"],
+        files: &[
+            "libbench_blocks.a",
+            "libbench_pmv.a",
+            "libinter_reconstruction.a",
+        ],
     },
     Linked {
         binary: "compare",
@@ -100,7 +104,7 @@ fn link(linked: &Linked) -> Result<(), Box<dyn Error>> {
             format!(
                 "a library of the port is not there: {cause}. Set {LIBRARY} to the folder that \
                  holds {} (now {given:?}; a relative path starts at the root of the repository)",
-                linked.files.join(" and "),
+                linked.files.join(", "),
             )
         })?;
         // The binary alone: a library that cargo links goes into `oracle`, and so into `lists`.
