@@ -1,7 +1,8 @@
-# make                 build the static library, proved, and the C example over it; run the example and see that it
-#                      prints what it should
+# make                 build the static library, proved, and the two C programs over it; run them and see that they
+#                      print what they should; the second makes a picture, build/plate.pgm
 # make example-check   the same with each of gcc and clang, as C and as C++, and under valgrind, where they are installed;
-#                      and see that the header declares what the library exports
+#                      and see that the header declares what the library exports, and that docs/plate.png is the picture
+# make picture         make docs/plate.png anew; needs python3
 # make demonstration   build the Rattle program that shows the layers one by one, proved, and run it
 # make test            the gate: prove everything from nothing, try the must-fail edits, run the programs
 # make differential    build the Rust original, see that the lists in the repository are its answers, and compare the
@@ -15,22 +16,27 @@ RT ?= rt
 CARGO ?= cargo
 
 LIBRARY = target/staticlib/libinter_reconstruction.a
-EXAMPLE = examples/c/example.c
-EXPECTED = examples/c/expected.txt
+# examples/c/NAME.c has to print examples/c/expected_NAME.txt; each is given the file for a picture, if it makes one
+EXAMPLES = example moving_picture
+PICTURE = build/plate.pgm
 C_FLAGS = -O2 -Wall -Wextra -Wpedantic -Werror -Iinclude
 
 # what the library is made of, since rt staticlib proves its last crate anew each time it is asked
 LAYERS = laws combine_predictions forming_predictions pmv inter_reconstruction
 SOURCES := crates.txt $(shell find $(LAYERS:%=crates/%) -name '*.rt' -o -name '*.antt')
 
-.PHONY: all declarations example-check demonstration test differential lists-check compare lists bench clean
+.PHONY: all declarations example-check picture demonstration test differential lists-check compare lists bench clean
 
 all: $(LIBRARY)
 	@mkdir -p build
-	@$(CC) -std=c99 $(C_FLAGS) $(EXAMPLE) $(LIBRARY) -o build/example
-	@build/example >build/example.txt
-	@cat build/example.txt
-	@diff $(EXPECTED) build/example.txt && echo "as $(EXPECTED) has it"
+	@for name in $(EXAMPLES); do \
+		$(CC) -std=c99 $(C_FLAGS) examples/c/$$name.c $(LIBRARY) -o build/$$name || exit 1; \
+		build/$$name $(PICTURE) >build/$$name.txt || { cat build/$$name.txt; exit 1; }; \
+		cat build/$$name.txt; \
+		diff examples/c/expected_$$name.txt build/$$name.txt || exit 1; \
+		echo "as examples/c/expected_$$name.txt has it"; \
+	done
+	@echo "the picture is $(PICTURE)"
 
 $(LIBRARY): $(SOURCES)
 	@mkdir -p build
@@ -48,15 +54,26 @@ example-check: declarations $(LIBRARY)
 	@echo "the library needs nothing but memcpy and memset"
 	@for compiler in 'gcc -std=c99' 'clang -std=c99' 'g++ -std=c++11 -x c++' 'clang++ -std=c++11 -x c++'; do \
 		command -v $${compiler%% *} >/dev/null || { echo "$${compiler%% *} is not installed"; continue; }; \
-		$$compiler $(C_FLAGS) $(EXAMPLE) -x none $(LIBRARY) -o build/example || exit 1; \
-		build/example >build/example.txt || exit 1; \
-		diff $(EXPECTED) build/example.txt || exit 1; \
-		echo "$$compiler: no warning, and as $(EXPECTED) has it"; \
+		for name in $(EXAMPLES); do \
+			$$compiler $(C_FLAGS) examples/c/$$name.c -x none $(LIBRARY) -o build/$$name || exit 1; \
+			build/$$name $(PICTURE) >build/$$name.txt || { cat build/$$name.txt; exit 1; }; \
+			diff examples/c/expected_$$name.txt build/$$name.txt || exit 1; \
+			echo "$$compiler: no warning, and as examples/c/expected_$$name.txt has it"; \
+		done || exit 1; \
 	done
 	@command -v valgrind >/dev/null || { echo "valgrind is not installed"; exit 0; }; \
-		$(CC) -std=c99 -g $(C_FLAGS) $(EXAMPLE) $(LIBRARY) -o build/example || exit 1; \
-		valgrind -q --error-exitcode=1 --leak-check=full build/example >build/example.txt || exit 1; \
-		diff $(EXPECTED) build/example.txt && echo "valgrind: no error"
+		for name in $(EXAMPLES); do \
+			$(CC) -std=c99 -g $(C_FLAGS) examples/c/$$name.c $(LIBRARY) -o build/$$name || exit 1; \
+			valgrind -q --error-exitcode=1 --leak-check=full build/$$name $(PICTURE) >build/$$name.txt || exit 1; \
+			diff examples/c/expected_$$name.txt build/$$name.txt || exit 1; \
+			echo "valgrind: no error in $$name"; \
+		done
+	@command -v python3 >/dev/null || { echo "python3 is not installed"; exit 0; }; \
+		python3 examples/c/png.py --check $(PICTURE) docs/plate.png && echo "docs/plate.png shows $(PICTURE)"
+
+# by way of make, which sees that the picture is as it should be
+picture: all
+	@python3 examples/c/png.py $(PICTURE) docs/plate.png && echo "docs/plate.png shows $(PICTURE)"
 
 demonstration:
 	@mkdir -p build

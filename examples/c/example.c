@@ -1,6 +1,6 @@
 /*
  * The four calls from C: vectors, updates of their predictors, and one field-coded macroblock from its codes to its
- * samples. It prints what it does; expected.txt is what it has to print. C99, and C++ too.
+ * samples. It prints what it does; expected_example.txt is what it has to print. C99, and C++ too.
  */
 #include <stdio.h>
 #include <string.h>
