@@ -4,4 +4,5 @@ pub mod Rectangles
 pub mod Cells
 pub mod Checks
 pub mod Words
+pub mod ReadBack
 pub mod Updates
