@@ -6,3 +6,4 @@ pub mod Checks
 pub mod Words
 pub mod ReadBack
 pub mod Updates
+pub mod Cases

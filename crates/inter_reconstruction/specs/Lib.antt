@@ -8,4 +8,5 @@ pub mod Refusals
 pub mod Answers
 pub mod Layout
 pub mod Entries
+pub mod Cases
 pub mod inner
