@@ -12,7 +12,7 @@ use Rattle.forming_predictions.specs.Lines.{frame, field, fieldLines, sampleAt}
 use Rattle.forming_predictions.specs.Means.{mean4, rounded}
 use Rattle.forming_predictions.specs.Forming.{formed}
 use Rattle.forming_predictions.specs.declared.FieldParity.the-variants.{Bottom}
-use Rattle.pmv.specs.Component.{halves, deltaOf, componentOf, componentRefusal}
+use Rattle.pmv.specs.Component.{halves, componentOf, componentRefusal}
 use Rattle.pmv.specs.Chroma.{chromaHorizontal, chromaVertical}
 use Rattle.pmv.specs.declared.component.MotionResidual.{MotionResidual}
 use Rattle.pmv.specs.declared.component.MotionResidual.the-variants.{Absent, Present}

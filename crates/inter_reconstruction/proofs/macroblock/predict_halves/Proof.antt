@@ -14,7 +14,6 @@ use Rattle.laws.proofs.Parts.{part-length}
 use Rattle.inter_reconstruction.specs.inner.Blocks.{fieldHalves}
 use Rattle.inter_reconstruction.proofs.macroblock.predict_halves.Statement.{statement}
 use Rattle.inter_reconstruction.proofs.macroblock.predict_halves.Tie as tie
-use Rattle.inter_reconstruction.proofs.Begun.{Begun, begun-first, begun-part, begun-length, begun-all}
 use Rattle.inter_reconstruction.proofs.Begun.{Begun, begun-first, begun-part, begun-length, begun-all, append-count}
 
 abbrev start : tie.After-predict-lines → tie.Start
