@@ -3,4 +3,3 @@ pub mod Rounding
 pub mod Refusals
 pub mod Averaging
 pub mod Choosing
-pub mod Cases

@@ -9,4 +9,3 @@ pub mod Forming
 pub mod Refusals
 pub mod SampleAnswers
 pub mod BlockAnswers
-pub mod Cases

@@ -7,5 +7,4 @@ pub mod Forming
 pub mod Refusals
 pub mod SampleAnswers
 pub mod BlockAnswers
-pub mod Cases
 pub mod inner

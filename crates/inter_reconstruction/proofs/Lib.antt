@@ -4,4 +4,6 @@ pub mod Rectangles
 pub mod Cells
 pub mod Checks
 pub mod Words
+pub mod ReadBack
 pub mod Updates
+pub mod Cases

@@ -125,18 +125,32 @@ pub four-length : (a b c d : ℤ) → length (pairBytes a b ++ pairBytes c d) �
 unfolding bytesOf
 four-length a b c d = refl
 
--- the bytes of eight numbers, in two halves
-pub eight-bytes : (l : List ℤ) → length l ≡ 8
-    → (let at : ℕ → ℤ = λ i. getD l i (pos 0) in
+-- ---- eight numbers
+
+pub data Eight : List ℤ → Type 0 where
+  eight : (a b c d e f g h : ℤ) → Eight (a ∷ b ∷ c ∷ d ∷ e ∷ f ∷ g ∷ h ∷ [])
+
+pub eight-of : (l : List ℤ) → length l ≡ 8 → Eight l
+eight-of (a ∷ b ∷ c ∷ d ∷ e ∷ f ∷ g ∷ h ∷ []) n = eight a b c d e f g h
+eight-of (a ∷ b ∷ c ∷ d ∷ e ∷ f ∷ g ∷ h ∷ i ∷ l) n = absurd (omega arith)
+eight-of [] n = absurd (omega arith)
+eight-of (a ∷ []) n = absurd (omega arith)
+eight-of (a ∷ b ∷ []) n = absurd (omega arith)
+eight-of (a ∷ b ∷ c ∷ []) n = absurd (omega arith)
+eight-of (a ∷ b ∷ c ∷ d ∷ []) n = absurd (omega arith)
+eight-of (a ∷ b ∷ c ∷ d ∷ e ∷ []) n = absurd (omega arith)
+eight-of (a ∷ b ∷ c ∷ d ∷ e ∷ f ∷ []) n = absurd (omega arith)
+eight-of (a ∷ b ∷ c ∷ d ∷ e ∷ f ∷ g ∷ []) n = absurd (omega arith)
+
+-- their bytes, in two halves
+abbrev InHalves : List ℤ → Type 0
+InHalves l =
+    (let at : ℕ → ℤ = λ i. getD l i (pos 0) in
     (pairBytes (at 0) (at 1) ++ pairBytes (at 2) (at 3)) ++ (pairBytes (at 4) (at 5) ++ pairBytes (at 6) (at 7)) ≡ numbersBytes l)
+
+pub eight-bytes : (l : List ℤ) → length l ≡ 8 → InHalves l
 unfolding bytesOf numbersBytes
-eight-bytes (a ∷ b ∷ c ∷ d ∷ e ∷ f ∷ g ∷ h ∷ []) n = refl
-eight-bytes (a ∷ b ∷ c ∷ d ∷ e ∷ f ∷ g ∷ h ∷ i ∷ l) n = absurd (omega arith)
-eight-bytes [] n = absurd (omega arith)
-eight-bytes (a ∷ []) n = absurd (omega arith)
-eight-bytes (a ∷ b ∷ []) n = absurd (omega arith)
-eight-bytes (a ∷ b ∷ c ∷ []) n = absurd (omega arith)
-eight-bytes (a ∷ b ∷ c ∷ d ∷ []) n = absurd (omega arith)
-eight-bytes (a ∷ b ∷ c ∷ d ∷ e ∷ []) n = absurd (omega arith)
-eight-bytes (a ∷ b ∷ c ∷ d ∷ e ∷ f ∷ []) n = absurd (omega arith)
-eight-bytes (a ∷ b ∷ c ∷ d ∷ e ∷ f ∷ g ∷ []) n = absurd (omega arith)
+eight-bytes l n = in-halves (eight-of l n)
+  where
+    in-halves : {l : List ℤ} → Eight l → InHalves l
+    in-halves (eight a b c d e f g h) = refl

@@ -5,15 +5,9 @@
 pub mod frames;
 /// The motion of a macroblock, and which directions it is predicted from.
 pub mod motion;
-/// The block of one component.
-mod blocks;
-/// The blocks of all three.
-mod planes;
-/// The calls.
+/// The prediction of a macroblock: the block of a component, the three components, the calls.
 pub mod macroblock;
 /// The C entry points that predict.
 pub mod c_prediction;
-/// The buffers of the C entry points.
-mod layout;
-/// The C entry points for vectors and predictors.
+/// The C entry points for vectors and predictors, with their buffers.
 pub mod c_vectors;

@@ -9,5 +9,4 @@ pub mod Vector
 pub mod Update
 pub mod Chroma
 pub mod Answers
-pub mod Cases
 pub mod inner
