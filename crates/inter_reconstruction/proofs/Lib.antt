@@ -5,3 +5,5 @@ pub mod Cells
 pub mod Checks
 pub mod Words
 pub mod Updates
+pub mod Stored
+pub mod Places

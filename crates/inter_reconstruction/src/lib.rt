@@ -11,6 +11,10 @@ mod blocks;
 mod planes;
 /// The calls.
 pub mod macroblock;
+/// Copies of samples.
+mod samples;
+/// Placing a macroblock in a picture.
+pub mod placing;
 /// The C entry points that predict.
 pub mod c_prediction;
 /// The buffers of the C entry points.
