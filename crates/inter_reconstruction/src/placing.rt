@@ -73,7 +73,15 @@ fn place_planes(
     let cr_plane = picture.cr;
     let a = 256 + width * height;
     let e = bytes.len();
-    place_block(&bytes[0..256], mb_col * 16, mb_row * 16, 16, 16, y_plane.width, y);
+    place_block(
+        &bytes[0..256],
+        mb_col * 16,
+        mb_row * 16,
+        16,
+        16,
+        y_plane.width,
+        y,
+    );
     place_block(
         &bytes[256..a],
         mb_col * width,
@@ -147,7 +155,8 @@ fn well_formed(picture: FrameBuffer) -> bool
     let cr = picture.cr;
     (whole_side(g.width) & whole_side(g.height))
         & (sides_are(y, g.width, g.height)
-            & (sides_are(cb, chroma.width, chroma.height) & sides_are(cr, chroma.width, chroma.height)))
+            & (sides_are(cb, chroma.width, chroma.height)
+                & sides_are(cr, chroma.width, chroma.height)))
 }
 
 fn cell_inside(g: FrameGeometry, mb_col: usize, mb_row: usize) -> bool
