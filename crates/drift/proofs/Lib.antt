@@ -4,3 +4,5 @@ pub mod Keeps
 pub mod Bounds
 pub mod Steps
 pub mod Runs
+pub mod Cases
+pub mod Table
