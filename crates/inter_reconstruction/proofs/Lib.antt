@@ -7,3 +7,4 @@ pub mod Words
 pub mod Updates
 pub mod Stored
 pub mod Places
+pub mod Placed
