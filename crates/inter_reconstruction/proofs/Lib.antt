@@ -7,3 +7,6 @@ pub mod Words
 pub mod ReadBack
 pub mod Updates
 pub mod Cases
+pub mod Stored
+pub mod Places
+pub mod Placed

@@ -6,6 +6,7 @@ pub mod Frames
 pub mod Macroblock
 pub mod Refusals
 pub mod Answers
+pub mod Placing
 pub mod Layout
 pub mod Entries
 pub mod Cases

@@ -38,14 +38,27 @@ usedSample m forward backward (Both d e) x y = m .join (directionSample m forwar
 
 -- ---- blocks
 
--- w columns and h rows of a plane, by a rule for each sample, row after row; the first is at column x and row y
-unfoldable pub rectangle : ℕ → ℕ → (ℕ → ℕ → ℕ) → ℕ → ℕ → List ℕ
-rectangle w h rule x y = tabulate (w * h) (λ (k : ℕ). rule (x + k % w) (y + k / w))
+-- where sample k of a rectangle stands in its plane: w columns, row after row, the first sample at column x and row y
+abbrev pub columnAt : ℕ → ℕ → ℕ → ℕ
+columnAt w x k = x + k % w
 
--- a macroblock's part in a component's plane: the macroblock in column `col` and row `row` of the picture's macroblocks
+abbrev pub rowAt : ℕ → ℕ → ℕ → ℕ
+rowAt w y k = y + k / w
+
+-- w columns and h rows of a plane, by a rule for each sample
+unfoldable pub rectangle : ℕ → ℕ → (ℕ → ℕ → ℕ) → ℕ → ℕ → List ℕ
+rectangle w h rule x y = tabulate (w * h) (λ (k : ℕ). rule (columnAt w x k) (rowAt w y k))
+
+-- the first sample of a macroblock's part in a component's plane: the macroblock in column `col` and row `row` of the picture's macroblocks
+abbrev pub firstColumn : ChromaFormat → ColourComponent → ℕ → ℕ
+firstColumn f c col = col * blockWidth f c
+
+abbrev pub firstRow : ChromaFormat → ColourComponent → ℕ → ℕ
+firstRow f c row = row * blockHeight f c
+
+-- that part
 abbrev pub part : ChromaFormat → ColourComponent → (ℕ → ℕ → ℕ) → ℕ → ℕ → List ℕ
-part f c rule col row =
-    rectangle (blockWidth f c) (blockHeight f c) rule (col * blockWidth f c) (row * blockHeight f c)
+part f c rule col row = rectangle (blockWidth f c) (blockHeight f c) rule (firstColumn f c col) (firstRow f c row)
 
 -- the three parts
 unfoldable pub macroblock : ChromaFormat → (ColourComponent → ℕ → ℕ → ℕ) → ℕ → ℕ → List ℕ

@@ -1,3 +1,4 @@
 -- What private contracts speak of. Nothing of it need be believed: the public promises are proved from it.
 pub mod Blocks
 pub mod Planes
+pub mod Placing

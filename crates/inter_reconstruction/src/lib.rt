@@ -7,6 +7,10 @@ pub mod frames;
 pub mod motion;
 /// The prediction of a macroblock: the block of a component, the three components, the calls.
 pub mod macroblock;
+/// Copies of samples.
+mod samples;
+/// Placing a macroblock in a picture.
+pub mod placing;
 /// The C entry points that predict.
 pub mod c_prediction;
 /// The C entry points for vectors and predictors, with their buffers.

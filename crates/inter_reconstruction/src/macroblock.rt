@@ -510,7 +510,8 @@ fn same_geometry(a: FrameGeometry, b: FrameGeometry) -> bool
     (a.width == b.width) & ((a.height == b.height) & (f.number() == g.number()))
 }
 
-fn planes_fit(frame: FrameBuffer, y: &[u8], cb: &[u8], cr: &[u8]) -> bool
+/// Each plane of a frame is in the domain: no side is too long, and it has as many samples as its sides say.
+pub fn planes_fit(frame: FrameBuffer, y: &[u8], cb: &[u8], cr: &[u8]) -> bool
     ensures { λ r. ⌜ r ≡ planesFit frame (lengthsOf (samplesOf (now (y .entry)) (now (cb .entry)) (now (cr .entry)))) ⌝ }
 {
     let y_plane = frame.y;

@@ -1,0 +1,8 @@
+-- The drift figure, and facts beside it.
+pub mod Lists
+pub mod Keeps
+pub mod Bounds
+pub mod Steps
+pub mod Runs
+pub mod Cases
+pub mod Table
