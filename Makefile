@@ -15,14 +15,14 @@
 RT ?= rt
 CARGO ?= cargo
 
-LIBRARY = target/staticlib/libinter_reconstruction.a
+LIBRARY = target/staticlib/libfozdrik.a
 # examples/c/NAME.c has to print examples/c/expected_NAME.txt; each is given the file for a picture, if it makes one
 EXAMPLES = example moving_picture
 PICTURE = build/plate.pgm
 C_FLAGS = -O2 -Wall -Wextra -Wpedantic -Werror -Iinclude
 
 # what the library is made of, since rt staticlib proves its last crate anew each time it is asked
-LAYERS = laws combine_predictions forming_predictions pmv inter_reconstruction
+LAYERS = laws combine_predictions forming_predictions pmv inter_reconstruction fozdrik
 SOURCES := crates.txt $(shell find $(LAYERS:%=crates/%) -name '*.rt' -o -name '*.antt')
 
 .PHONY: all declarations example-check picture demonstration test differential lists-check compare lists bench clean
@@ -41,11 +41,11 @@ all: $(LIBRARY)
 $(LIBRARY): $(SOURCES)
 	@mkdir -p build
 	@echo "proving and building $(LIBRARY), which takes some minutes"
-	@$(RT) staticlib inter_reconstruction >build/library.log 2>&1 || { tail -n 40 build/library.log; exit 1; }
+	@$(RT) staticlib fozdrik >build/library.log 2>&1 || { tail -n 40 build/library.log; exit 1; }
 
 declarations:
 	@mkdir -p build
-	@awk -f examples/c/declarations.awk crates/inter_reconstruction/src/*.rt | sort >build/exported.txt
+	@awk -f examples/c/declarations.awk crates/fozdrik/src/*.rt | sort >build/exported.txt
 	@awk -f examples/c/declarations.awk include/fozdrik.h | sort >build/declared.txt
 	@diff build/exported.txt build/declared.txt && echo "the header declares what the library exports"
 

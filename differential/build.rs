@@ -35,14 +35,14 @@ const LINKED: [Linked; 2] = [
         files: &[
             "libbench_blocks.a",
             "libbench_pmv.a",
-            "libinter_reconstruction.a",
+            "libfozdrik.a",
         ],
     },
     Linked {
         binary: "compare",
         feature: "CARGO_FEATURE_COMPARE",
         default: "target/staticlib",
-        files: &["libinter_reconstruction.a"],
+        files: &["libfozdrik.a"],
     },
 ];
 

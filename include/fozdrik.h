@@ -1,6 +1,6 @@
 /*
  * Fozdrik: motion vectors, their predictors, and predicted macroblocks of MPEG-2 frame pictures
- * (ISO/IEC 13818-2, clause 7.6). C99 and C++11; link with libinter_reconstruction.a.
+ * (ISO/IEC 13818-2, clause 7.6). C99 and C++11; link with libfozdrik.a.
  *
  *   fozdrik_reconstruct_motion_vector   a vector from the codes of the stream
  *   fozdrik_update_predictors           the predictors after a macroblock

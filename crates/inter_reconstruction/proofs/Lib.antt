@@ -3,10 +3,6 @@ pub mod Begun
 pub mod Rectangles
 pub mod Cells
 pub mod Checks
-pub mod Words
-pub mod ReadBack
-pub mod Updates
-pub mod Cases
 pub mod Stored
 pub mod Places
 pub mod Placed

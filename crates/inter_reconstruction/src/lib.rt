@@ -11,7 +11,3 @@ pub mod macroblock;
 mod samples;
 /// Placing a macroblock in a picture.
 pub mod placing;
-/// The C entry points that predict.
-pub mod c_prediction;
-/// The C entry points for vectors and predictors, with their buffers.
-pub mod c_vectors;

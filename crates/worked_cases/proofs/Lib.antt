@@ -1,0 +1,2 @@
+-- That all of them hold.
+pub mod Cases

@@ -1,0 +1,2 @@
+-- Document 01's cases that are marked (T), of all layers.
+pub mod Cases
