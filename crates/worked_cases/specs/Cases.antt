@@ -50,7 +50,7 @@ plane-with-rows r s = record { width = length r; height = 2; samples = r ++ s }
 
 -- what a component is made of; `halved`: it goes by half the predictor
 pub record Input : Type 0 where
-  pub f : ℕ
+  pub fCode : ℕ
   pub motion-code : ℤ
   pub motion-residual : MotionResidual
   pub predictor : ℤ
@@ -58,19 +58,19 @@ pub record Input : Type 0 where
 
 -- of vectors that are not halved, whatever their kind
 abbrev pub f-code_code_residual_prior_ : ℕ → ℤ → ℕ → ℤ → Input
-f-code f code c residual r prior p =
-    record { f = f; motion-code = c; motion-residual = Present r; predictor = p; halved = false }
+f-code n code c residual r prior p =
+    record { fCode = n; motion-code = c; motion-residual = Present r; predictor = p; halved = false }
 
 abbrev pub f-code_code_prior_ : ℕ → ℤ → ℤ → Input
-f-code f code c prior p = record { f = f; motion-code = c; motion-residual = Absent; predictor = p; halved = false }
+f-code n code c prior p = record { fCode = n; motion-code = c; motion-residual = Absent; predictor = p; halved = false }
 
 abbrev pub f-code_code_any-prior : ℕ → ℤ → ℤ → Input
-f-code f code c any-prior = λ (p : ℤ). f-code f code c prior p
+f-code n code c any-prior = λ (p : ℤ). f-code n code c prior p
 
 abbrev pub vertical-field-vector-in-frame-picture_ : Input → Input
 vertical-field-vector-in-frame-picture i =
     record {
-      f = i .f;
+      fCode = i .fCode;
       motion-code = i .motion-code;
       motion-residual = i .motion-residual;
       predictor = i .predictor;
@@ -78,11 +78,11 @@ vertical-field-vector-in-frame-picture i =
     }
 
 abbrev pub refusalOf : Input → ℕ
-refusalOf i = componentRefusal (i .f) (i .motion-code) (i .motion-residual) (i .predictor) (i .halved)
+refusalOf i = componentRefusal (i .fCode) (i .motion-code) (i .motion-residual) (i .predictor) (i .halved)
 
 -- vector, new predictor, delta and range of a component that is not refused
 abbrev pub answerOf : Input → ReconstructedComponent
-answerOf i = componentOf (i .f) (i .motion-code) (i .motion-residual) (i .predictor) (i .halved)
+answerOf i = componentOf (i .fCode) (i .motion-code) (i .motion-residual) (i .predictor) (i .halved)
 
 -- ---- the kinds of cases, and what each says
 
