@@ -5,7 +5,7 @@ use crate::kinds::PictureStructure;
 ghost use mathlib.Core.Path.{_≡_};
 ghost use mathlib.Core.Bool.{false};
 ghost use Prim.Native.Nat.{_+_, _*_, _≤_, _<_};
-ghost use lib.IntN.{ℤ, natAbs, _+ℤ_};
+ghost use lib.IntN.{ℤ, natAbs, _+ℤ_, _-ℤ_};
 ghost use Rattle.laws.proofs.Bounded.{Within};
 ghost use Rattle.forming_predictions.specs.SampleAnswers.{valueUnless};
 ghost use Rattle.pmv.specs.Delta.{scale, isPlain, withSign, delta, fCodeFits, codeFits, residualRefusal, fCodeRefusal, deltaRefusal};
@@ -194,10 +194,20 @@ pub fn vector_range(f_code: u8) -> FoundRange
     FoundRange::Range(range_of(scale_of(f_code)))
 }
 
+/// How far v is above low: by it, one comparison tests both ends.
+fn above_low(b: VectorRange, v: i64) -> i64
+    requires { ⌜ Small b × Within 4294983680 v ⌝ }
+    ensures { λ r. ⌜ r ≡ v -ℤ b .low ⌝ }
+{
+    v - b.low as i64
+}
+
 fn in_range(b: VectorRange, v: i64) -> bool
+    requires { ⌜ Small b × Within 4294983680 v ⌝ }
     ensures { λ r. ⌜ r ≡ inRange b v ⌝ }
 {
-    ((b.low as i64) <= v) & (v <= b.high as i64)
+    let above = above_low(b, v);
+    (0 <= above) & (above < b.range as i64)
 }
 
 // ---- a component
@@ -238,9 +248,9 @@ fn raise(b: VectorRange, v: i64) -> i64
 
 fn lower(b: VectorRange, v: i64) -> i64
     requires { ⌜ Small b × Within 4294975488 v ⌝ }
-    ensures { λ r. ⌜ r ≡ lowered b v ⌝ }
+    ensures { λ r. ⌜ (r ≡ lowered b v) × Within 4294983680 r ⌝ }
 {
-    if (b.high as i64) < v {
+    if b.range as i64 <= above_low(b, v) {
         return v - b.range as i64;
     }
     v
@@ -249,7 +259,7 @@ fn lower(b: VectorRange, v: i64) -> i64
 /// The vector before its last test.
 fn wrap(b: VectorRange, prior_pmv: i32, halved: bool, delta: i32) -> i64
     requires { ⌜ Small b ⌝ }
-    ensures { λ r. ⌜ r ≡ vectorOf b halved «prior_pmv» delta ⌝ }
+    ensures { λ r. ⌜ (r ≡ vectorOf b halved «prior_pmv» delta) × Within 4294983680 r ⌝ }
 {
     lower(b, raise(b, summed(predicted(prior_pmv, halved), delta)))
 }

@@ -37,7 +37,9 @@ fn paragraph(calls: &str, rows: &str, unlike: &str) -> String {
         "{calls}, each on the predictors that the one before it left. With few calls, branch \
          prediction learns their sequence, and the times are the true cost of neither. {rows} \
          The original is called as Rust calls Rust, and is not inlined; Fozdrik is called \
-         through C, with numbers that it turns into kinds{unlike}. The last row is the loop alone: a function that does nothing in place of \
+         through C, with numbers that it turns into kinds{unlike}. Its entry points are the \
+         benchmark's own: the card's also test that each number has a meaning, and have the \
+         predictors as bytes. The last row is the loop alone: a function that does nothing in place of \
          the call."
     )
 }

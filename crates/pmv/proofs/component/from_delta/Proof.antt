@@ -12,7 +12,7 @@ use Rattle.laws.proofs.Bits.{back, widened}
 use Rattle.laws.proofs.Bounded.{Within, within-fits}
 use Rattle.pmv.specs.Component.{inRange, vectorOf}
 use Rattle.pmv.specs.declared.component.Reconstructed.the-variants.{Component}
-use Rattle.pmv.proofs.Ranges.{range-fits, in-range-within, from-delta-5, from-delta-6, from-delta-accepted, from-delta-is}
+use Rattle.pmv.proofs.Ranges.{range-fits, fits-wide, in-range-within, from-delta-5, from-delta-6, from-delta-accepted, from-delta-is}
 use borrow.Author.Needs.{needs}
 use Rattle.pmv.proofs.component.from_delta.Statement.{statement}
 use Rattle.pmv.proofs.component.from_delta.Tie as tie
@@ -29,7 +29,7 @@ vector-is : (c : tie.After-wrap)
     ≡ vectorOf (c .before .before .before .args .b) (c .before .before .before .args .halved) (c .before .before .before .args .prior-pmv) (c .before .before .before .args .delta)
 vector-is c =
     let s = c .before .before .before in
-    back w64 (c .wrap .result) (c .wrap .ok) ∙ (rw (toZ-ofZ (s .fits .prior-pmv), toZ-ofZ (s .fits .delta)) at (c .wrap .ensures))
+    back w64 (c .wrap .result) (c .wrap .ok) ∙ (rw (toZ-ofZ (s .fits .prior-pmv), toZ-ofZ (s .fits .delta)) at (c .wrap .ensures .0))
 
 vector-test : (c : tie.After-in-range2)
     → let a = c .before .before .before .before .args in
@@ -52,7 +52,8 @@ cast-in-range c =
     rw (toZ-ofZ f) (sfits-widen tt f)
 
 in-range-requires : tie.Need-in-range-requires
-in-range-requires c κs = search needs
+in-range-requires c κs =
+    rw (widened (c .args .delta) (c .fits .delta)) (c .pre, fits-wide (c .fits .delta))
 
 returns : tie.Need-returns
 returns c =

@@ -1,6 +1,5 @@
 -- `wrap` meets its contract.
 -- Assumes nothing.
-use mathlib.Core.Path.{_∙_}
 use mir.Syntax.{w32, w64}
 use mir.Facts.{toZ-ofZ}
 use Rattle.laws.proofs.Bits.{back}
@@ -31,7 +30,8 @@ returns c =
     let e = rw (toZ-ofZ (s .fits .prior-pmv)) at (p .ensures) in
     let f = rw (back w32 (p .result) (p .ok), toZ-ofZ (s .fits .delta), e) at (u .ensures .0) in
     let g = rw (back w64 (u .result) (u .ok), f) at (r .ensures .0) in
-    back w64 (c .lower .result) (c .lower .ok) ∙ (rw (back w64 (r .result) (r .ok), g) at (c .lower .ensures))
+    let l = c .lower in
+    rw (back w64 (l .result) (l .ok)) (rw (back w64 (r .result) (r .ok), g) at (l .ensures .0), l .ensures .1)
 
 pub wrap-spec : {M : Type 1} → statement M
 wrap-spec =
