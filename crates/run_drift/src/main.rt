@@ -1,0 +1,166 @@
+//! Runs three lists of steps by the calls that predict and place, and beside them with every mean exact, and prints how far rounding has taken
+//! the samples of each picture: the drift figure, and how tight it is. Unrounded samples are whole numbers, 8 to the power n of them to a grey
+//! step in picture n, so that 64 bits end at picture 18; the theorem (crate drift) has no end.
+//!
+//! The functions here promise nothing and take everything: an index is tested, and a sum or a product is kept from overflowing by a remainder
+//! or by wrapping that changes nothing for the pictures at hand.
+mod calls;
+mod pictures;
+mod report;
+mod steps;
+mod unrounded;
+
+use crate::pictures::Component;
+use crate::report::Counts;
+use crate::steps::Step;
+use crate::steps::Steps;
+
+/// How many steps the drawn list has.
+const DRAWN: u64 = 6000;
+
+/// Pictures 1 to 18, each of nine macroblocks.
+const EVERY_CELL: u64 = 162;
+
+/// A step by the calls, on bytes, and the same step on the unrounded pictures, which get no answer of the calls.
+fn take_step(
+    s: Step,
+    y: &mut [u8],
+    cb: &mut [u8],
+    cr: &mut [u8],
+    exact_y: &mut [u64],
+    exact_cb: &mut [u64],
+    exact_cr: &mut [u64],
+    counts: Counts,
+) -> Counts {
+    let answered = calls::take_step(s, y, cb, cr);
+    unrounded::take_step(s, exact_y, exact_cb, exact_cr);
+    report::counted(counts, answered, unrounded::refusal(s))
+}
+
+fn take_steps(
+    list: Steps,
+    count: u64,
+    y: &mut [u8],
+    cb: &mut [u8],
+    cr: &mut [u8],
+    exact_y: &mut [u64],
+    exact_cb: &mut [u64],
+    exact_cr: &mut [u64],
+) -> Counts {
+    let mut d = steps::first_draws();
+    let mut counts = report::none();
+    let mut left = count;
+    while left > 0 {
+        let s = steps::step_of(list, d);
+        counts = take_step(s, y, cb, cr, exact_y, exact_cb, exact_cr, counts);
+        d = steps::next_draws(d);
+        left -= 1;
+    }
+    counts
+}
+
+/// Sets the first pictures, takes the steps, reports.
+fn run(
+    list: Steps,
+    count: u64,
+    y: &mut [u8],
+    cb: &mut [u8],
+    cr: &mut [u8],
+    exact_y: &mut [u64],
+    exact_cb: &mut [u64],
+    exact_cr: &mut [u64],
+) {
+    pictures::draw(y, 1);
+    pictures::draw(cb, 2);
+    pictures::draw(cr, 3);
+    pictures::set_luminance(list, y);
+    unrounded::set(Component::Luminance, y, exact_y);
+    unrounded::set(Component::Chrominance, cb, exact_cb);
+    unrounded::set(Component::Chrominance, cr, exact_cr);
+    let counts = take_steps(list, count, y, cb, cr, exact_y, exact_cb, exact_cr);
+    report::write_counts(count, counts);
+    report::write_pictures(y, cb, cr, exact_y, exact_cb, exact_cr);
+}
+
+fn run_lists(
+    y: &mut [u8],
+    cb: &mut [u8],
+    cr: &mut [u8],
+    exact_y: &mut [u64],
+    exact_cb: &mut [u64],
+    exact_cr: &mut [u64],
+) {
+    report::write_head();
+    report::say(
+        b"\nlist 1, brighter: each macroblock from the picture before, forward by (0, 1) and backward by (0, -1)\n",
+    );
+    report::say(b"sample (x, y) of picture 0's luminance is y\n");
+    run(
+        Steps::Brighter,
+        EVERY_CELL,
+        y,
+        cb,
+        cr,
+        exact_y,
+        exact_cb,
+        exact_cr,
+    );
+    report::say(
+        b"sample (24, 24) of picture 18 made one grey step brighter by hand, which is too bright:\n",
+    );
+    pictures::add(y, 18, 24, 24, 1);
+    report::write_picture(18, y, cb, cr, exact_y, exact_cb, exact_cr);
+    report::say(
+        b"\nlist 2, unchanged: each macroblock from the picture before, forward by (1, 1)\n",
+    );
+    report::say(
+        b"sample (x, y) of picture 0's luminance is d (d - 1) / 2 for d = x - y, or 255 where that is more\n",
+    );
+    run(
+        Steps::Unchanged,
+        EVERY_CELL,
+        y,
+        cb,
+        cr,
+        exact_y,
+        exact_cb,
+        exact_cr,
+    );
+    report::say(
+        b"sample (5, 0) of picture 18 made one grey step darker by hand, which is too dark:\n",
+    );
+    pictures::add(y, 18, 5, 0, 255);
+    report::write_picture(18, y, cb, cr, exact_y, exact_cb, exact_cr);
+    report::say(b"\nlist 3, drawn: drawn steps on drawn pictures, in any order, some refused\n");
+    run(Steps::Drawn, DRAWN, y, cb, cr, exact_y, exact_cb, exact_cr);
+}
+
+/// Lends the arrays as slices: the prover takes an array's length from its type here, and in `main` would have to count it.
+fn lend(
+    y: &mut [u8; 43776],
+    cb: &mut [u8; 10944],
+    cr: &mut [u8; 10944],
+    exact_y: &mut [u64; 43776],
+    exact_cb: &mut [u64; 10944],
+    exact_cr: &mut [u64; 10944],
+) {
+    run_lists(y, cb, cr, exact_y, exact_cb, exact_cr);
+}
+
+/// The samples of 19 pictures, by component.
+fn main() {
+    let mut y = [0u8; 43776];
+    let mut cb = [0u8; 10944];
+    let mut cr = [0u8; 10944];
+    let mut exact_y = [0u64; 43776];
+    let mut exact_cb = [0u64; 10944];
+    let mut exact_cr = [0u64; 10944];
+    lend(
+        &mut y,
+        &mut cb,
+        &mut cr,
+        &mut exact_y,
+        &mut exact_cb,
+        &mut exact_cr,
+    );
+}
