@@ -140,7 +140,13 @@ fn place(s: Step, bytes: &[u8], y: &mut [u8], cb: &mut [u8], cr: &mut [u8]) -> u
     let e = a + 2304;
     let b = n * 576;
     let f = b + 576;
-    if (y.len() < e) | (cb.len() < f) | (cr.len() < f) {
+    if y.len() < e {
+        return 256;
+    }
+    if cb.len() < f {
+        return 256;
+    }
+    if cr.len() < f {
         return 256;
     }
     placing_number_of(place_macroblock(

@@ -3,6 +3,7 @@ use crate::pictures::Component;
 use crate::pictures::planes;
 use crate::unrounded::sample;
 use crate::unrounded::scaled;
+use crate::unrounded::wide;
 use drift::drift_bound;
 use libc::STDOUT_FILENO;
 
@@ -100,7 +101,7 @@ pub fn write_counts(steps: u64, c: Counts) {
 
 fn byte(bytes: &[u8], i: usize) -> u64 {
     if i < bytes.len() {
-        return bytes[i] as u64;
+        return wide(bytes[i]);
     }
     0
 }
@@ -140,7 +141,7 @@ fn compared(c: Component, n: usize, bytes: &[u8], exact: &[u64], d: Distances) -
     }
 }
 
-fn distances(
+fn largest(
     n: usize,
     y: &[u8],
     cb: &[u8],
@@ -267,7 +268,7 @@ pub fn write_picture(
     exact_cr: &[u64],
 ) {
     let k = n as usize;
-    let d = distances(k, y, cb, cr, exact_y, exact_cb, exact_cr);
+    let d = largest(k, y, cb, cr, exact_y, exact_cb, exact_cr);
     let figure = drift_bound(n);
     say(b"    ");
     whole(n as u64);

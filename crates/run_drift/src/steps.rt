@@ -43,7 +43,7 @@ pub struct Draws {
     pub numbers: [u64; 22],
 }
 
-fn draws(step: usize, seed: u64) -> Draws {
+fn draw_for(step: usize, seed: u64) -> Draws {
     let mut numbers = [0u64; 22];
     let mut state = seed;
     let mut i: usize = 0;
@@ -62,11 +62,11 @@ fn draws(step: usize, seed: u64) -> Draws {
 }
 
 pub fn first_draws() -> Draws {
-    draws(0, 4)
+    draw_for(0, 4)
 }
 
 pub fn next_draws(d: Draws) -> Draws {
-    draws(std::num::wrapping_add_usize(d.step, 1), d.state)
+    draw_for(std::num::wrapping_add_usize(d.step, 1), d.state)
 }
 
 fn field_vector(horizontal: i32, vertical: i32, parity: FieldParity) -> FieldVector {

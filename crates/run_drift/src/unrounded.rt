@@ -40,7 +40,7 @@ fn store(samples: &mut [u64], i: usize, v: u64) {
     }
 }
 
-fn wide(b: u8) -> u64 {
+pub fn wide(b: u8) -> u64 {
     b as u64
 }
 
