@@ -59,7 +59,47 @@ fn take_steps(
     counts
 }
 
-/// Sets the first pictures, takes the steps, reports.
+fn set_luminance(list: Steps, y: &mut [u8], exact_y: &mut [u64]) {
+    pictures::draw(y, 1);
+    pictures::set_luminance(list, y);
+    unrounded::set(Component::Luminance, y, exact_y);
+}
+
+fn set_chrominance(seed: u64, samples: &mut [u8], exact: &mut [u64]) {
+    pictures::draw(samples, seed);
+    unrounded::set(Component::Chrominance, samples, exact);
+}
+
+/// The pictures that a list starts from.
+fn set_pictures(
+    list: Steps,
+    y: &mut [u8],
+    cb: &mut [u8],
+    cr: &mut [u8],
+    exact_y: &mut [u64],
+    exact_cb: &mut [u64],
+    exact_cr: &mut [u64],
+) {
+    set_luminance(list, y, exact_y);
+    set_chrominance(2, cb, exact_cb);
+    set_chrominance(3, cr, exact_cr);
+}
+
+fn start_and_take(
+    list: Steps,
+    count: u64,
+    y: &mut [u8],
+    cb: &mut [u8],
+    cr: &mut [u8],
+    exact_y: &mut [u64],
+    exact_cb: &mut [u64],
+    exact_cr: &mut [u64],
+) -> Counts {
+    set_pictures(list, y, cb, cr, exact_y, exact_cb, exact_cr);
+    take_steps(list, count, y, cb, cr, exact_y, exact_cb, exact_cr)
+}
+
+/// Takes the steps of a list, and reports.
 fn run(
     list: Steps,
     count: u64,
@@ -70,16 +110,97 @@ fn run(
     exact_cb: &mut [u64],
     exact_cr: &mut [u64],
 ) {
-    pictures::draw(y, 1);
-    pictures::draw(cb, 2);
-    pictures::draw(cr, 3);
-    pictures::set_luminance(list, y);
-    unrounded::set(Component::Luminance, y, exact_y);
-    unrounded::set(Component::Chrominance, cb, exact_cb);
-    unrounded::set(Component::Chrominance, cr, exact_cr);
-    let counts = take_steps(list, count, y, cb, cr, exact_y, exact_cb, exact_cr);
+    let counts = start_and_take(list, count, y, cb, cr, exact_y, exact_cb, exact_cr);
     report::write_counts(count, counts);
     report::write_pictures(y, cb, cr, exact_y, exact_cb, exact_cr);
+}
+
+/// Changes a luminance sample of picture 18 by hand, where it is as far off as the figure allows, so that the comparison is seen to fail.
+fn spoil(
+    x: usize,
+    row: usize,
+    by: u8,
+    y: &mut [u8],
+    cb: &[u8],
+    cr: &[u8],
+    exact_y: &[u64],
+    exact_cb: &[u64],
+    exact_cr: &[u64],
+) {
+    pictures::add(y, 18, x, row, by);
+    report::write_picture(18, y, cb, cr, exact_y, exact_cb, exact_cr);
+}
+
+/// Attains the figure above: a half is rounded up twice for each picture, in one direction and in the mean of both.
+fn run_brighter(
+    y: &mut [u8],
+    cb: &mut [u8],
+    cr: &mut [u8],
+    exact_y: &mut [u64],
+    exact_cb: &mut [u64],
+    exact_cr: &mut [u64],
+) {
+    report::write_brighter();
+    run(
+        Steps::Brighter,
+        EVERY_CELL,
+        y,
+        cb,
+        cr,
+        exact_y,
+        exact_cb,
+        exact_cr,
+    );
+    report::write_too_bright();
+    spoil(24, 24, 1, y, cb, cr, exact_y, exact_cb, exact_cr);
+}
+
+/// Attains the figure below: of four samples a quarter is lost for each picture.
+fn run_unchanged(
+    y: &mut [u8],
+    cb: &mut [u8],
+    cr: &mut [u8],
+    exact_y: &mut [u64],
+    exact_cb: &mut [u64],
+    exact_cr: &mut [u64],
+) {
+    report::write_unchanged();
+    run(
+        Steps::Unchanged,
+        EVERY_CELL,
+        y,
+        cb,
+        cr,
+        exact_y,
+        exact_cb,
+        exact_cr,
+    );
+    report::write_too_dark();
+    spoil(5, 0, 255, y, cb, cr, exact_y, exact_cb, exact_cr);
+}
+
+fn run_drawn(
+    y: &mut [u8],
+    cb: &mut [u8],
+    cr: &mut [u8],
+    exact_y: &mut [u64],
+    exact_cb: &mut [u64],
+    exact_cr: &mut [u64],
+) {
+    report::write_drawn();
+    run(Steps::Drawn, DRAWN, y, cb, cr, exact_y, exact_cb, exact_cr);
+}
+
+fn run_two(
+    y: &mut [u8],
+    cb: &mut [u8],
+    cr: &mut [u8],
+    exact_y: &mut [u64],
+    exact_cb: &mut [u64],
+    exact_cr: &mut [u64],
+) {
+    run_brighter(y, cb, cr, exact_y, exact_cb, exact_cr);
+    run_unchanged(y, cb, cr, exact_y, exact_cb, exact_cr);
 }
 
 fn run_lists(
@@ -91,48 +212,8 @@ fn run_lists(
     exact_cr: &mut [u64],
 ) {
     report::write_head();
-    report::say(
-        b"\nlist 1, brighter: each macroblock from the picture before, forward by (0, 1) and backward by (0, -1)\n",
-    );
-    report::say(b"sample (x, y) of picture 0's luminance is y\n");
-    run(
-        Steps::Brighter,
-        EVERY_CELL,
-        y,
-        cb,
-        cr,
-        exact_y,
-        exact_cb,
-        exact_cr,
-    );
-    report::say(
-        b"sample (24, 24) of picture 18 made one grey step brighter by hand, which is too bright:\n",
-    );
-    pictures::add(y, 18, 24, 24, 1);
-    report::write_picture(18, y, cb, cr, exact_y, exact_cb, exact_cr);
-    report::say(
-        b"\nlist 2, unchanged: each macroblock from the picture before, forward by (1, 1)\n",
-    );
-    report::say(
-        b"sample (x, y) of picture 0's luminance is d (d - 1) / 2 for d = x - y, or 255 where that is more\n",
-    );
-    run(
-        Steps::Unchanged,
-        EVERY_CELL,
-        y,
-        cb,
-        cr,
-        exact_y,
-        exact_cb,
-        exact_cr,
-    );
-    report::say(
-        b"sample (5, 0) of picture 18 made one grey step darker by hand, which is too dark:\n",
-    );
-    pictures::add(y, 18, 5, 0, 255);
-    report::write_picture(18, y, cb, cr, exact_y, exact_cb, exact_cr);
-    report::say(b"\nlist 3, drawn: drawn steps on drawn pictures, in any order, some refused\n");
-    run(Steps::Drawn, DRAWN, y, cb, cr, exact_y, exact_cb, exact_cr);
+    run_two(y, cb, cr, exact_y, exact_cb, exact_cr);
+    run_drawn(y, cb, cr, exact_y, exact_cb, exact_cr);
 }
 
 /// Lends the arrays as slices: the prover takes an array's length from its type here, and in `main` would have to count it.

@@ -257,6 +257,34 @@ pub fn write_head() {
     say(b"64 bits end at picture 18; the theorem has no end.\n");
 }
 
+pub fn write_brighter() {
+    say(
+        b"\nlist 1, brighter: each macroblock from the picture before, forward by (0, 1) and backward by (0, -1)\n",
+    );
+    say(b"sample (x, y) of picture 0's luminance is y\n");
+}
+
+pub fn write_too_bright() {
+    say(
+        b"sample (24, 24) of picture 18 made one grey step brighter by hand, which is too bright:\n",
+    );
+}
+
+pub fn write_unchanged() {
+    say(b"\nlist 2, unchanged: each macroblock from the picture before, forward by (1, 1)\n");
+    say(
+        b"sample (x, y) of picture 0's luminance is d (d - 1) / 2 for d = x - y, or 255 where that is more\n",
+    );
+}
+
+pub fn write_too_dark() {
+    say(b"sample (5, 0) of picture 18 made one grey step darker by hand, which is too dark:\n");
+}
+
+pub fn write_drawn() {
+    say(b"\nlist 3, drawn: drawn steps on drawn pictures, in any order, some refused\n");
+}
+
 /// The row of picture n.
 pub fn write_picture(
     n: u32,

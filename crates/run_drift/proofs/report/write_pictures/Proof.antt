@@ -1,47 +1,39 @@
+-- `write_pictures` ends: the pictures that are left fall.
+-- Assumes nothing.
+use Prim.Native.Nat.{_-_}
+use borrow.Author.Needs.{needs}
 use Rattle.run_drift.proofs.report.write_pictures.Statement.{statement}
 use Rattle.run_drift.proofs.report.write_pictures.Tie as tie
-use Rattle.run_drift.proofs.report.write_pictures.Reads as reads
-use Rattle.run_drift.proofs.report.write_pictures.Lts as lts
-use Rattle.run_drift.proofs.report.say.Reads as say-reads
-use Rattle.run_drift.proofs.report.write_picture.Reads as write-picture-reads
 
 abbrev Inv-loop : tie.InvT-loop
-Inv-loop y cb cr exact-y exact-cb exact-cr n₀ n = ?
+Inv-loop y cb cr exact-y exact-cb exact-cr n₀ n = Unit {0}
 
 abbrev μ-loop : tie.MeasureT-loop
-μ-loop y cb cr exact-y exact-cb exact-cr n₀ n = ?
+μ-loop y cb cr exact-y exact-cb exact-cr n₀ n = 19 - n
 
--- src/report.rt:288:9
 slice-aggregate-say : tie.Need-slice-aggregate-say Inv-loop μ-loop
-slice-aggregate-say c = ?
+slice-aggregate-say c = search needs
 
--- src/report.rt:288:5
 say-requires : tie.Need-say-requires Inv-loop μ-loop
-say-requires c κs = ?
+say-requires c κs = search needs
 
--- src/report.rt:290:5
 loop-holds : tie.Need-loop-holds Inv-loop μ-loop
-loop-holds c = ?
+loop-holds c = search needs
 
--- src/report.rt:291:9
 write-picture-requires : tie.Need-write-picture-requires Inv-loop μ-loop
-write-picture-requires c κs = ?
+write-picture-requires c κs = search needs
 
--- src/report.rt:292:9
 add-n : tie.Need-add-n Inv-loop μ-loop
-add-n c = ?
+add-n c = search needs
 
--- src/report.rt:290:5
 loop-less : tie.Need-loop-less Inv-loop μ-loop
-loop-less c = ?
+loop-less c = search needs
 
--- src/report.rt:290:5
 loop-again : tie.Need-loop-again Inv-loop μ-loop
-loop-again c = ?
+loop-again c = search needs
 
--- src/report.rt:280:1
 returns : tie.Need-returns Inv-loop μ-loop
-returns c = ?
+returns c = search needs
 
 pub write-pictures-spec : {M : Type 1} → statement M
 write-pictures-spec =
