@@ -3,6 +3,7 @@
 # make example-check   the same with each of gcc and clang, as C and as C++, and under valgrind, where they are installed;
 #                      and see that the header declares what the library exports
 # make demonstration   build the Rattle program that shows the layers one by one, proved, and run it
+# make plot            draw docs/drift.svg anew, from what the program run_drift prints
 # make test            the gate: prove everything from nothing, try the must-fail edits, run the programs
 # make differential    build the Rust original and see that the lists in the repository are its answers
 # make lists           make those lists anew
@@ -22,7 +23,7 @@ C_FLAGS = -O2 -Wall -Wextra -Wpedantic -Werror -Iinclude
 LAYERS = laws combine_predictions forming_predictions pmv inter_reconstruction
 SOURCES := crates.txt $(shell find $(LAYERS:%=crates/%) -name '*.rt' -o -name '*.antt')
 
-.PHONY: all declarations example-check demonstration test differential lists bench clean
+.PHONY: all declarations example-check demonstration plot test differential lists bench clean
 
 all: $(LIBRARY)
 	@mkdir -p build
@@ -61,6 +62,9 @@ demonstration:
 	@mkdir -p build
 	@$(RT) check demonstration >build/check.log 2>&1 || { tail -n 40 build/check.log; exit 1; }
 	@target/bin/demonstration
+
+plot:
+	awk -f docs/drift.awk crates/run_drift/stdout >docs/drift.svg
 
 test:
 	@.ci/run

@@ -131,7 +131,7 @@ fn spoil(
     report::write_picture(18, y, cb, cr, exact_y, exact_cb, exact_cr);
 }
 
-/// Attains the figure above: a half is rounded up twice for each picture, in one direction and in the mean of both.
+/// Attains the figure above: for each picture a half is rounded up in both directions, and again in the mean of both.
 fn run_brighter(
     y: &mut [u8],
     cb: &mut [u8],
@@ -155,7 +155,7 @@ fn run_brighter(
     spoil(24, 24, 1, y, cb, cr, exact_y, exact_cb, exact_cr);
 }
 
-/// Attains the figure below: of four samples a quarter is lost for each picture.
+/// Attains the figure below: for each picture the mean of four samples loses a quarter.
 fn run_unchanged(
     y: &mut [u8],
     cb: &mut [u8],
