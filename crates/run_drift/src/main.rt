@@ -2,8 +2,8 @@
 //! the samples of each picture: the drift figure, and how tight it is. Unrounded samples are whole numbers, 8 to the power n of them to a grey
 //! step in picture n, so that 64 bits end at picture 18; the theorem (crate drift) has no end.
 //!
-//! The functions here promise nothing and take everything: an index is tested, and a sum or a product is kept from overflowing by a remainder
-//! or by wrapping that changes nothing for the pictures at hand.
+//! The functions promise nothing, and all but one take every input: an index is tested, and sums and products are kept from overflowing by
+//! remainders and by wrapping sums, which change nothing for the pictures at hand.
 mod calls;
 mod pictures;
 mod report;
@@ -191,6 +191,7 @@ fn run_drawn(
     run(Steps::Drawn, DRAWN, y, cb, cr, exact_y, exact_cb, exact_cr);
 }
 
+/// The two lists that attain the figure.
 fn run_two(
     y: &mut [u8],
     cb: &mut [u8],
