@@ -4,6 +4,7 @@
 #                      and see that the header declares what the library exports, and that docs/plate.png is the picture
 # make picture         make docs/plate.png anew; needs python3
 # make demonstration   build the Rattle program that shows the layers one by one, proved, and run it
+# make plot            draw docs/drift.svg anew, from what the program run_drift prints
 # make test            the gate: prove everything from nothing, try the must-fail edits, run the programs
 # make differential    build the Rust original, see that the lists in the repository are its answers, and compare the
 #                      library with it, call by call through C, by the million; SEED=N and COUNT=N draw other cases or more
@@ -25,7 +26,7 @@ C_FLAGS = -O2 -Wall -Wextra -Wpedantic -Werror -Iinclude
 LAYERS = laws combine_predictions forming_predictions pmv inter_reconstruction fozdrik
 SOURCES := crates.txt $(shell find $(LAYERS:%=crates/%) -name '*.rt' -o -name '*.antt')
 
-.PHONY: all declarations example-check picture demonstration test differential lists-check compare lists bench clean
+.PHONY: all declarations example-check picture demonstration plot test differential lists-check compare lists bench clean
 
 all: $(LIBRARY)
 	@mkdir -p build
@@ -79,6 +80,9 @@ demonstration:
 	@mkdir -p build
 	@$(RT) check demonstration >build/check.log 2>&1 || { tail -n 40 build/check.log; exit 1; }
 	@target/bin/demonstration
+
+plot:
+	awk -f docs/drift.awk crates/run_drift/stdout >docs/drift.svg
 
 test:
 	@.ci/run
