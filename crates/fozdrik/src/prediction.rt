@@ -1,4 +1,5 @@
 //! The card's C entry points for prediction. Kinds and flags are numbers; what is absent has a 0 beside it, and its other numbers are not read.
+use forming_predictions::ReferencePlane;
 use inter_reconstruction::frames::FrameBuffer;
 use inter_reconstruction::frames::FrameGeometry;
 use inter_reconstruction::frames::ReferenceFrame;
@@ -12,7 +13,6 @@ use inter_reconstruction::motion::FieldVectorPair;
 use inter_reconstruction::motion::FrameDirection;
 use inter_reconstruction::motion::FrameMotion;
 use inter_reconstruction::motion::MotionVectorPel;
-use forming_predictions::ReferencePlane;
 use pmv::kinds::ChromaFormat;
 use pmv::kinds::flag_from_number;
 use pmv::kinds::parity_from_number;

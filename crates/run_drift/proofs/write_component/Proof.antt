@@ -3,8 +3,8 @@
 use lib.ListN.{length}
 use mathlib.Core.Path.{_≡_}
 use borrow.Author.Needs.{needs}
-use Rattle.run_drift.proofs.unrounded.write_component.Statement.{statement}
-use Rattle.run_drift.proofs.unrounded.write_component.Tie as tie
+use Rattle.run_drift.proofs.write_component.Statement.{statement}
+use Rattle.run_drift.proofs.write_component.Tie as tie
 
 abbrev Inv-loop : tie.InvT-loop
 Inv-loop c s samples₀ n left₀ samples left = length samples ≡ length samples₀

@@ -4,8 +4,8 @@ use Prim.Native.Nat.{_+_, _%_}
 use native.Mathlib.Omega.{arith}
 use native.Mathlib.Nat.{mul-le-mul}
 use borrow.Author.Needs.{needs}
-use Rattle.run_drift.proofs.pictures.triangle.Statement.{statement}
-use Rattle.run_drift.proofs.pictures.triangle.Tie as tie
+use Rattle.run_drift.proofs.triangle.Statement.{statement}
+use Rattle.run_drift.proofs.triangle.Tie as tie
 
 add-byte : tie.Need-add-byte
 add-byte c = search needs

@@ -2,8 +2,8 @@
 -- Assumes nothing.
 use Prim.Native.Nat.{_-_}
 use borrow.Author.Needs.{needs}
-use Rattle.run_drift.proofs.report.write_pictures.Statement.{statement}
-use Rattle.run_drift.proofs.report.write_pictures.Tie as tie
+use Rattle.run_drift.proofs.write_pictures.Statement.{statement}
+use Rattle.run_drift.proofs.write_pictures.Tie as tie
 
 abbrev Inv-loop : tie.InvT-loop
 Inv-loop y cb cr exact-y exact-cb exact-cr n₀ n = Unit {0}

@@ -8,8 +8,8 @@ use mir.Val.{hbits}
 use mir.Facts.{toZ-pos}
 use Rattle.laws.proofs.Signed.{sub-z, sfits-z}
 use borrow.Author.Needs.{needs}
-use Rattle.run_drift.proofs.steps.counted_up.Statement.{statement}
-use Rattle.run_drift.proofs.steps.counted_up.Tie as tie
+use Rattle.run_drift.proofs.counted_up.Statement.{statement}
+use Rattle.run_drift.proofs.counted_up.Tie as tie
 
 cast-i32-of : tie.Need-cast-i32-of
 cast-i32-of c = search needs

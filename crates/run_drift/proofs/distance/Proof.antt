@@ -9,8 +9,8 @@ use Rattle.laws.proofs.Signed.{zn-zero, sub-z}
 use Rattle.laws.proofs.Bounded.{within-sub, within-fits, fits-within}
 use Rattle.laws.proofs.Bits.{widened, is-neg, not-neg, cast-ok}
 use borrow.Author.Needs.{needs}
-use Rattle.run_drift.proofs.unrounded.distance.Statement.{statement}
-use Rattle.run_drift.proofs.unrounded.distance.Tie as tie
+use Rattle.run_drift.proofs.distance.Statement.{statement}
+use Rattle.run_drift.proofs.distance.Tie as tie
 
 opposite-fits : {z : ℤ} → SFits w32 z → SFits w64 (pos 0 -ℤ z)
 opposite-fits {z} f =

@@ -2,8 +2,8 @@
 -- Assumes nothing.
 use Prim.Native.Nat.{_-_}
 use borrow.Author.Needs.{needs}
-use Rattle.run_drift.proofs.steps.draw_for.Statement.{statement}
-use Rattle.run_drift.proofs.steps.draw_for.Tie as tie
+use Rattle.run_drift.proofs.draw_for.Statement.{statement}
+use Rattle.run_drift.proofs.draw_for.Tie as tie
 
 abbrev Inv-loop : tie.InvT-loop
 Inv-loop step seed numbers₀ state₀ i₀ numbers state i = Unit {0}

@@ -1,26 +1,26 @@
--- `draw` ends: the samples that are left fall.
+-- `set_luminance` ends: the samples that are left fall.
 -- Assumes nothing.
 use Prim.Native.Nat.{_-_}
 use lib.ListN.{length}
 use mathlib.Core.Path.{_≡_}
 use borrow.Author.Needs.{needs}
-use Rattle.run_drift.proofs.pictures.draw.Statement.{statement}
-use Rattle.run_drift.proofs.pictures.draw.Tie as tie
+use Rattle.run_drift.proofs.set_first_luminance.Statement.{statement}
+use Rattle.run_drift.proofs.set_first_luminance.Tie as tie
 
 abbrev Inv-loop : tie.InvT-loop
-Inv-loop samples₀ seed s₀ i₀ samples s i = length samples ≡ length samples₀
+Inv-loop list samples₀ i₀ samples i = length samples ≡ length samples₀
 
 abbrev μ-loop : tie.MeasureT-loop
-μ-loop samples₀ seed s₀ i₀ samples s i = length samples₀ - i
+μ-loop list samples₀ i₀ samples i = length samples₀ - i
 
 loop-holds : tie.Need-loop-holds Inv-loop μ-loop
 loop-holds c = search needs
 
-next-draw-requires : tie.Need-next-draw-requires Inv-loop μ-loop
-next-draw-requires c κs = search needs
+slice-read-drawn : tie.Need-slice-read-drawn Inv-loop μ-loop
+slice-read-drawn c = search needs
 
-sample-of-requires : tie.Need-sample-of-requires Inv-loop μ-loop
-sample-of-requires c κs = search needs
+first-luminance-requires : tie.Need-first-luminance-requires Inv-loop μ-loop
+first-luminance-requires c κs = search needs
 
 slice-write-samples : tie.Need-slice-write-samples Inv-loop μ-loop
 slice-write-samples c = search needs
@@ -40,15 +40,15 @@ same-length c = search needs
 returns : tie.Need-returns Inv-loop μ-loop
 returns c = search needs
 
-pub draw-spec : {M : Type 1} → statement M
-draw-spec =
+pub set-first-luminance-spec : {M : Type 1} → statement M
+set-first-luminance-spec =
     tie.close
     (tie.spec
     Inv-loop
     μ-loop
     loop-holds
-    next-draw-requires
-    sample-of-requires
+    slice-read-drawn
+    first-luminance-requires
     slice-write-samples
     add-i
     loop-less

@@ -1,8 +1,8 @@
 -- `compared` ends: the samples that are left fall.
 -- Assumes nothing.
 use borrow.Author.Needs.{needs}
-use Rattle.run_drift.proofs.report.compared.Statement.{statement}
-use Rattle.run_drift.proofs.report.compared.Tie as tie
+use Rattle.run_drift.proofs.compared.Statement.{statement}
+use Rattle.run_drift.proofs.compared.Tie as tie
 
 abbrev Inv-loop : tie.InvT-loop
 Inv-loop n bytes exact from above₀ below₀ left₀ above below left = Unit {0}

@@ -4,8 +4,8 @@ use Prim.Native.Nat.{_-_}
 use lib.ListN.{length}
 use mathlib.Core.Path.{_≡_}
 use borrow.Author.Needs.{needs}
-use Rattle.run_drift.proofs.unrounded.set.Statement.{statement}
-use Rattle.run_drift.proofs.unrounded.set.Tie as tie
+use Rattle.run_drift.proofs.set.Statement.{statement}
+use Rattle.run_drift.proofs.set.Tie as tie
 
 abbrev Inv-loop : tie.InvT-loop
 Inv-loop c bytes samples₀ i₀ samples i = length samples ≡ length samples₀
