@@ -25,8 +25,8 @@ sub-left c = search needs
 wrapping-add-usize-requires : tie.Need-wrapping-add-usize-requires Inv-loop μ-loop
 wrapping-add-usize-requires c κs = search needs
 
-byte-requires : tie.Need-byte-requires Inv-loop μ-loop
-byte-requires c κs = search needs
+byte-at-requires : tie.Need-byte-at-requires Inv-loop μ-loop
+byte-at-requires c κs = search needs
 
 scaled-requires : tie.Need-scaled-requires Inv-loop μ-loop
 scaled-requires c κs = search needs
@@ -66,7 +66,7 @@ compared-spec =
     loop-holds
     sub-left
     wrapping-add-usize-requires
-    byte-requires
+    byte-at-requires
     scaled-requires
     sample-requires
     over-requires
