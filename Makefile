@@ -71,8 +71,9 @@ differential:
 lists:
 	cd differential && $(CARGO) run --release --offline --bin lists
 
-bench:
+bench: $(LIBRARY)
 	@mkdir -p build/bench
+	@cp $(LIBRARY) build/bench/
 	@for library in bench_blocks bench_pmv; do \
 		$(RT) staticlib $$library >build/bench.log 2>&1 || { tail -n 40 build/bench.log; exit 1; }; \
 		cp target/staticlib/lib$$library.a build/bench/ || exit 1; \

@@ -17,7 +17,11 @@ const ORIGINAL_DEFAULT: &str = "../shared/docs/src";
 /// Names the folder that holds the port's libraries.
 const LIBRARY: &str = "FOZDRIK_LIBRARY";
 const LIBRARY_DEFAULT: &str = "build/bench";
-const LIBRARY_FILES: [&str; 2] = ["libbench_blocks.a", "libbench_pmv.a"];
+const LIBRARY_FILES: [&str; 3] = [
+    "libbench_blocks.a",
+    "libbench_pmv.a",
+    "libinter_reconstruction.a",
+];
 
 const MODULES: [&str; 10] = [
     "combine_predictions",
@@ -71,7 +75,7 @@ fn link_libraries() -> Result<(), Box<dyn Error>> {
             format!(
                 "a library of the port is not there: {cause}. Set {LIBRARY} to the folder that \
                  holds {} (now {given:?}; a relative path starts at the root of the repository)",
-                LIBRARY_FILES.join(" and "),
+                LIBRARY_FILES.join(", "),
             )
         })?;
         // The binary alone: a library that cargo links goes into `oracle`, and so into `lists`.

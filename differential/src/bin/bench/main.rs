@@ -2,6 +2,7 @@
 //! two, and prints Markdown tables.
 
 mod blocks;
+mod macroblocks;
 mod predictors;
 mod table;
 
@@ -9,18 +10,42 @@ use std::env;
 use std::process::ExitCode;
 
 use blocks::Blocks;
+use macroblocks::Macroblocks;
 use predictors::updates::Updates;
 use predictors::vectors::Vectors;
 use table::Effort;
 
 const USAGE: &str = "\
-usage: bench [--quick]
-  prints tables of the times that the original and the port take: to predict a block, to
-  update the predictors, to reconstruct a vector
+usage: bench [--quick] [TABLE...]
+  prints tables of the times that the original and the port take: to predict a block (blocks),
+  to predict a macroblock (macroblocks), to update the predictors (updates), to reconstruct a
+  vector (vectors); all, or those that are named
   --quick  with fewer repetitions";
 
+#[derive(Clone, Copy, PartialEq)]
+enum Kind {
+    Blocks,
+    Macroblocks,
+    Updates,
+    Vectors,
+}
+
+/// In the order in which they are printed.
+const KINDS: [(&str, Kind); 4] = [
+    ("blocks", Kind::Blocks),
+    ("macroblocks", Kind::Macroblocks),
+    ("updates", Kind::Updates),
+    ("vectors", Kind::Vectors),
+];
+
+/// What the command asks for.
+struct Request {
+    effort: Effort,
+    kinds: Vec<Kind>,
+}
+
 fn main() -> ExitCode {
-    match effort().and_then(run) {
+    match request().and_then(run) {
         Ok(()) => ExitCode::SUCCESS,
         Err(message) => {
             eprintln!("{message}");
@@ -29,23 +54,59 @@ fn main() -> ExitCode {
     }
 }
 
-fn effort() -> Result<Effort, String> {
-    let arguments: Vec<String> = env::args().skip(1).collect();
-    match arguments.iter().map(String::as_str).collect::<Vec<_>>()[..] {
-        [] => Ok(Effort::Full),
-        ["--quick"] => Ok(Effort::Quick),
-        _ => Err(USAGE.to_owned()),
+fn request() -> Result<Request, String> {
+    let mut effort = Effort::Full;
+    let mut named = Vec::new();
+    for argument in env::args().skip(1) {
+        match KINDS.into_iter().find(|(name, _)| *name == argument) {
+            Some((_, kind)) => named.push(kind),
+            None if argument == "--quick" => effort = Effort::Quick,
+            None => return Err(USAGE.to_owned()),
+        }
     }
+    let kinds = KINDS.into_iter().map(|(_, kind)| kind);
+    Ok(Request {
+        effort,
+        kinds: kinds
+            .filter(|kind| named.is_empty() || named.contains(kind))
+            .collect(),
+    })
 }
 
-fn run(effort: Effort) -> Result<(), String> {
+/// A table whose calls are drawn and compared: what is left is to print it.
+type Prepared = Box<dyn Fn(Effort)>;
+
+fn prepare(kind: Kind) -> Result<Prepared, String> {
+    Ok(match kind {
+        Kind::Blocks => {
+            let blocks = Blocks::prepare()?;
+            Box::new(move |effort| blocks.print(effort))
+        }
+        Kind::Macroblocks => {
+            let macroblocks = Macroblocks::prepare()?;
+            Box::new(move |effort| macroblocks.print(effort))
+        }
+        Kind::Updates => {
+            let updates = Updates::prepare()?;
+            Box::new(move |effort| updates.print(effort))
+        }
+        Kind::Vectors => {
+            let vectors = Vectors::prepare()?;
+            Box::new(move |effort| vectors.print(effort))
+        }
+    })
+}
+
+fn run(request: Request) -> Result<(), String> {
     if cfg!(debug_assertions) {
         return Err("the times are those of the release build: run with --release".to_owned());
     }
     // All is compared before anything is timed.
-    let blocks = Blocks::prepare()?;
-    let updates = Updates::prepare()?;
-    let vectors = Vectors::prepare()?;
+    let tables: Vec<Prepared> = request
+        .kinds
+        .into_iter()
+        .map(prepare)
+        .collect::<Result<_, _>>()?;
 
     println!(
         "Batches of calls by turns of the Rust original (release build) and of Fozdrik, with the \
@@ -53,8 +114,8 @@ fn run(effort: Effort) -> Result<(), String> {
          as fast Fozdrik is by them; the quartiles are the Rust's, then Fozdrik's. Before that, \
          both were seen to give the same for every call."
     );
-    blocks.print(effort);
-    updates.print(effort);
-    vectors.print(effort);
+    for table in tables {
+        table(request.effort);
+    }
     Ok(())
 }
