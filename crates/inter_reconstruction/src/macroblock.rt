@@ -363,8 +363,8 @@ fn store_blocks(direction: PredictionDirection, y: &[u8], cb: &[u8], cr: &[u8], 
     store_chosen(direction, cr, &mut out[b..e]);
 }
 
-/// A macroblock with one direction. All three blocks are predicted before the first is copied: a copy that reads at once what was just
-/// written by eights waits until that is in memory.
+/// A macroblock with one direction. All three blocks are predicted before the first is copied: a copy that at once reads what was written
+/// in smaller parts waits until that is in memory.
 fn predict_from_one(
     direction: PredictionDirection,
     motion: DirectionMotion,
