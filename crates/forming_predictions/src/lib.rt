@@ -384,6 +384,18 @@ fn copy_eight(from: &[u8], out: &mut [u8])
     }
 }
 
+/// The same for sixteen.
+fn copy_sixteen(from: &[u8], out: &mut [u8])
+    requires { ⌜ (length (now from) ≡ 16) × (length (now out) ≡ 16) ⌝ }
+    ensures { λ r. ⌜ now (out .exit) ≡ now (from .entry) ⌝ }
+{
+    let mut k: usize = 0;
+    while k < 16 {
+        out[k] = from[k];
+        k += 1;
+    }
+}
+
 /// Eight means of two samples. They go through a local array: there the loop has a fixed length and writes nothing that it might read, and
 /// it compiles to one instruction.
 fn two_eight(row: &[u8], below: &[u8], x: usize, dx: usize, out: &mut [u8])
@@ -396,6 +408,19 @@ fn two_eight(row: &[u8], below: &[u8], x: usize, dx: usize, out: &mut [u8])
     let mut local = [0u8; 8];
     mean2_samples(&row[x..e], &below[right..f], &mut local);
     copy_eight(&local, out);
+}
+
+/// Sixteen means of two samples, likewise.
+fn two_sixteen(row: &[u8], below: &[u8], x: usize, dx: usize, out: &mut [u8])
+    requires { ⌜ RowFits (now row) (now below) x dx 16 × (length (now out) ≡ 16) ⌝ }
+    ensures { λ r. ⌜ now (out .exit) ≡ tabulate 16 (twoOf (now (row .entry)) (now (below .entry)) x dx) ⌝ }
+{
+    let right = x + dx;
+    let e = x + 16;
+    let f = right + 16;
+    let mut local = [0u8; 16];
+    mean2_samples(&row[x..e], &below[right..f], &mut local);
+    copy_sixteen(&local, out);
 }
 
 /// Eight means of four samples, likewise.
@@ -520,6 +545,67 @@ fn form_square(
     two_square(samples, start, dx + dy * stride, stride, out);
 }
 
+/// A row of sixteen of a block from line y on, unless both steps are 1: the plane's rows are handed on as parts of its bytes.
+fn wide_line(
+    samples: &[u8],
+    width: usize,
+    first: usize,
+    step: usize,
+    count: usize,
+    x: usize,
+    y: usize,
+    dx: usize,
+    dy: usize,
+    out: &mut [u8],
+)
+    requires { ⌜ ViewFits (now samples) width first step count × Inside width count x y dx dy 16 1 × (dx + dy ≤ 1) × (length (now out) ≡ 16) ⌝ }
+    ensures { λ r. ⌜ now (out .exit) ≡ tabulate 16 (lineCell (now (samples .entry)) width first step count (pos x) (pos y) dx dy) ⌝ }
+{
+    let a = line_start(first, step, width, y);
+    let b = line_start(first, step, width, y + dy);
+    let e = a + width;
+    let f = b + width;
+    two_sixteen(&samples[a..e], &samples[b..f], x, dx, out);
+}
+
+/// A block of 16 columns whose reads all lie inside, unless both steps are 1. It has a loop of its own: in one with rows of 8, the compiler
+/// forms both by eights.
+fn form_wide(
+    samples: &[u8],
+    width: usize,
+    first: usize,
+    step: usize,
+    count: usize,
+    x: usize,
+    y: usize,
+    dx: usize,
+    dy: usize,
+    height: usize,
+    out: &mut [u8],
+)
+    requires { ⌜ ViewFits (now samples) width first step count × BlockFits dx dy 16 height (now out) × Inside width count x y dx dy 16 height × (dx + dy ≤ 1) ⌝ }
+    ensures { λ r. ⌜ now (out .exit) ≡ viewBlock (now (samples .entry)) width first step count (pos x) (pos y) dx dy 16 height ⌝ }
+{
+    let mut r: usize = 0;
+    while r < height {
+        let o = r * 16;
+        let e = o + 16;
+        wide_line(
+            samples,
+            width,
+            first,
+            step,
+            count,
+            x,
+            y + r,
+            dx,
+            dy,
+            &mut out[o..e],
+        );
+        r += 1;
+    }
+}
+
 /// A block of 8 or 16 columns whose reads all lie inside: nothing is clamped.
 fn form_inside(
     samples: &[u8],
@@ -538,9 +624,27 @@ fn form_inside(
     requires { ⌜ ViewFits (now samples) width first step count × BlockFits dx dy «block_width» «block_height» (now out) × Inside width count x y dx dy «block_width» «block_height» × Eights «block_width» ⌝ }
     ensures { λ r. ⌜ now (out .exit) ≡ viewBlock (now (samples .entry)) width first step count (pos x) (pos y) dx dy «block_width» «block_height» ⌝ }
 {
-    if (dx + dy <= 1) & ((block_width == 8) & (block_height == 8)) {
-        form_square(samples, width, first, step, count, x, y, dx, dy, out);
-        return;
+    if dx + dy <= 1 {
+        if block_width == 16 {
+            form_wide(
+                samples,
+                width,
+                first,
+                step,
+                count,
+                x,
+                y,
+                dx,
+                dy,
+                block_height,
+                out,
+            );
+            return;
+        }
+        if (block_width == 8) & (block_height == 8) {
+            form_square(samples, width, first, step, count, x, y, dx, dy, out);
+            return;
+        }
     }
     let mut r: usize = 0;
     while r < block_height {

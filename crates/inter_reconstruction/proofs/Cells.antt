@@ -1,6 +1,6 @@
 -- A macroblock's parts: their sizes and positions, once over width and height, and the bytes that they make together.
 -- Assumes nothing.
-use mathlib.Core.Path.{_≡_, refl}
+use mathlib.Core.Path.{_≡_, refl, sym, _∙_}
 use mathlib.Core.List.{List, _++_}
 use Prim.Native.Nat.{ℕ, zero, suc, _+_, _-_, _*_, _%_, _≤_}
 use native.Mathlib.Nat.{mul-le-mul, zero-mul, suc-mul}
@@ -9,13 +9,14 @@ use lib.ListN.{length}
 use Rattle.forming_predictions.specs.Means.{rounded}
 use Rattle.pmv.specs.declared.kinds.ChromaFormat.{ChromaFormat}
 use Rattle.pmv.specs.declared.kinds.ChromaFormat.the-variants.{Yuv420, Yuv422, Yuv444}
+use Rattle.inter_reconstruction.specs.declared.motion.DirectionMotion.{DirectionMotion}
 use Rattle.inter_reconstruction.specs.declared.motion.Uses.{Uses}
-use Rattle.inter_reconstruction.specs.Components.{ColourComponent, luma, cb, cr, blockWidth, blockHeight}
-use Rattle.inter_reconstruction.specs.Motion.{chromaUses}
+use Rattle.inter_reconstruction.specs.Components.{ColourComponent, luma, cb, cr, blockWidth, blockHeight, blockBytes, macroblockBytes}
+use Rattle.inter_reconstruction.specs.Motion.{chromaMotion, chromaUses}
 use Rattle.inter_reconstruction.specs.Frames.{Reading}
-use Rattle.inter_reconstruction.specs.Macroblock.{usedSample, rectangle, macroblock, predicted}
+use Rattle.inter_reconstruction.specs.Macroblock.{directionSample, usedSample, rectangle, part, macroblock, predicted}
 use Rattle.inter_reconstruction.specs.inner.Blocks.{BlockAt, FieldRows, HalvesAt, ChromaSides}
-use Rattle.inter_reconstruction.specs.inner.Planes.{CellFits, chromaBlocks}
+use Rattle.inter_reconstruction.specs.inner.Planes.{CellFits, BlocksFit, chromaBlocks}
 use Rattle.inter_reconstruction.proofs.Begun.{append-count}
 use Rattle.inter_reconstruction.proofs.Rectangles.{rectangle-length}
 
@@ -29,6 +30,10 @@ chroma-sides Yuv444 = record { wide-lo = omega arith; wide = omega arith; high-l
 even-multiple : (r h : ℕ) → h % 2 ≡ 0 → r * h % 2 ≡ 0
 even-multiple zero h e = rw (zero-mul h)
 even-multiple (suc r) h e = let p = even-multiple r h e in omega (arith, suc-mul r h)
+
+-- three local blocks are for a cell
+pub cell-of : {f : ChromaFormat} {col row a b r : ℕ} → BlocksFit f col row a b r → CellFits f col row (macroblockBytes f)
+cell-of h = record { column = h .column; line = h .line; count = refl }
 
 -- ---- the luminance
 pub luma-at : {f : ChromaFormat} {col row n : ℕ} (m : ℕ) → CellFits f col row n → m ≡ 256 → BlockAt (col * 16) (row * 16) 16 16 m
@@ -61,6 +66,9 @@ module _ (f : ChromaFormat) (w h : ℕ) (ew : w ≡ blockWidth f cb) (eh : h ≡
   pub chroma-small : w * h ≤ 256
   chroma-small = mul-le-mul (sides .wide) (sides .high)
 
+  pub chroma-bytes : w * h ≡ blockBytes f cb
+  chroma-bytes = rw (ew, eh)
+
   pub chroma-rows : (row : ℕ) → FieldRows (row * h) h
   chroma-rows row = record { first = even-multiple row h (sides .even); even = sides .even }
 
@@ -74,23 +82,28 @@ module _ (f : ChromaFormat) (w h : ℕ) (ew : w ≡ blockWidth f cb) (eh : h ≡
     pub chroma-total : n ≡ 256 + (w * h + w * h)
     chroma-total = rw (ew, eh) (c .count)
 
-    pub chroma-at : (m : ℕ) → m + 256 ≡ n → HalvesAt (col * w) (row * h) w h m
-    chroma-at m e =
+    pub chroma-block : (m : ℕ) → m ≡ blockBytes f cb → BlockAt (col * w) (row * h) w h m
+    chroma-block m e =
         record {
-          one =
-              record {
-                left = chroma-left;
-                top = chroma-top;
-                some = omega (arith, sides .wide-lo);
-                wide = sides .wide;
-                tall = omega (arith, sides .high-lo);
-                high = sides .high;
-                count = refl;
-              };
-          count = omega (arith, chroma-total);
+          left = chroma-left;
+          top = chroma-top;
+          some = omega (arith, sides .wide-lo);
+          wide = sides .wide;
+          tall = omega (arith, sides .high-lo);
+          high = sides .high;
+          count = e ∙ sym chroma-bytes;
         }
 
+    pub chroma-at : (m : ℕ) → m + 256 ≡ n → HalvesAt (col * w) (row * h) w h m
+    chroma-at m e = record { one = chroma-block (w * h) chroma-bytes; count = omega (arith, chroma-total) }
+
   -- ---- the bytes
+  pub chroma-part : (read : Reading) (d v : DirectionMotion) (col row : ℕ) (o : List ℕ)
+      → v ≡ chromaMotion f d
+      → o ≡ rectangle w h (directionSample rounded read v) (col * w) (row * h)
+      → o ≡ part f cb (directionSample rounded read (chromaMotion f d)) col row
+  chroma-part read d v col row o ev eo = eo ∙ rw (ew, eh, ev)
+
   pub parts-are : (forward backward : ColourComponent → Reading) (u v : Uses) (col row : ℕ) (a b : List ℕ)
       → v ≡ chromaUses f u
       → a ≡ rectangle 16 16 (usedSample rounded (forward luma) (backward luma) u) (col * 16) (row * 16)

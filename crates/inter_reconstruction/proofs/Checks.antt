@@ -9,10 +9,14 @@ use lib.ListN.{length}
 use borrow.Author.Tests.{ltb-false}
 use Rattle.laws.proofs.Tests.{not-taken, not-left, both}
 use Rattle.combine_predictions.specs.Refusals.{unlessRefused}
+use Rattle.combine_predictions.specs.declared.PredictionDirection.{PredictionDirection}
+use Rattle.combine_predictions.specs.declared.PredictionDirection.the-variants as PredictionDirection
 use Rattle.forming_predictions.specs.Means.{rounded}
 use Rattle.forming_predictions.specs.Refusals.{planeFits}
 use Rattle.pmv.specs.declared.kinds.ChromaFormat.{ChromaFormat}
+use Rattle.inter_reconstruction.specs.declared.frames.FrameGeometry.{FrameGeometry}
 use Rattle.inter_reconstruction.specs.declared.frames.FrameBuffer.{FrameBuffer}
+use Rattle.inter_reconstruction.specs.declared.frames.ReferenceFrame.the-variants.{Absent}
 use Rattle.inter_reconstruction.specs.declared.motion.DirectionMotion.{DirectionMotion}
 use Rattle.inter_reconstruction.specs.declared.motion.Uses.the-variants.{Forward, Backward}
 use Rattle.inter_reconstruction.specs.declared.macroblock.MacroblockPrediction.{MacroblockPrediction}
@@ -20,9 +24,9 @@ use Rattle.inter_reconstruction.specs.declared.macroblock.MacroblockPred
 use Rattle.inter_reconstruction.specs.Components.{ColourComponent, luma, cb, cr, blockWidth, blockHeight, macroblockBytes}
 use Rattle.inter_reconstruction.specs.Frames.{Samples, lengthsOf, planeOf, Reading}
 use Rattle.inter_reconstruction.specs.Macroblock.{usedSample, rectangle, macroblock, predicted}
-use Rattle.inter_reconstruction.specs.Refusals.{planesFit}
+use Rattle.inter_reconstruction.specs.Refusals.{planesFit, oneRefusal}
 use Rattle.inter_reconstruction.specs.Answers.{predictionNumber, predictionAnswer}
-use Rattle.inter_reconstruction.specs.inner.Planes.{FrameFits, CellFits}
+use Rattle.inter_reconstruction.specs.inner.Planes.{FrameFits, CellFits, directed, missingIn}
 
 -- `if !f(..)`, taken and left, where f's result x is the definition's y
 pub was-false : (x y : Bool) → x ≡ y → not x ≡ true → y ≡ false
@@ -82,12 +86,26 @@ pub by-answer : {A : Type 0} (r : MacroblockPrediction) (n : ℕ) (o new old : A
     → r ≡ predictionAnswer n → o ≡ unlessRefused n new old → o ≡ unlessRefused (predictionNumber r) new old
 by-answer r n o new old e w = w ∙ rw (e, answer-number n)
 
--- ---- a direction that is not used is not read
-module _ (f : ChromaFormat) (forward backward other : ColourComponent → Reading) (d : DirectionMotion) (col row : ℕ) where
-  pub forward-alone : predicted rounded f forward other (Forward d) col row ≡ predicted rounded f forward backward (Forward d) col row
+-- ---- one direction
+
+-- its reference is absent
+pub absent-number : (d : PredictionDirection) (dest : FrameGeometry) (n : ColourComponent → ℕ) (r : ℕ)
+    → r ≡ missingIn d → r ≡ oneRefusal (missingIn d) dest Absent n
+absent-number PredictionDirection.Forward dest n r e = e
+absent-number PredictionDirection.Backward dest n r e = e
+absent-number PredictionDirection.Skipped dest n r e = e
+
+pub absent-kept : {A : Type 0} (d : PredictionDirection) (r : ℕ) (new old : A) → r ≡ missingIn d → old ≡ unlessRefused r new old
+absent-kept PredictionDirection.Forward r new old e = rw e
+absent-kept PredictionDirection.Backward r new old e = rw e
+absent-kept PredictionDirection.Skipped r new old e = rw e
+
+-- a direction that is not used is not read
+module _ (f : ChromaFormat) (forward backward : ColourComponent → Reading) (d : DirectionMotion) (col row : ℕ) where
+  pub forward-alone : directed f forward d col row ≡ predicted rounded f forward backward (Forward d) col row
   unfolding macroblock rectangle usedSample
   forward-alone = refl
 
-  pub backward-alone : predicted rounded f other backward (Backward d) col row ≡ predicted rounded f forward backward (Backward d) col row
+  pub backward-alone : directed f backward d col row ≡ predicted rounded f forward backward (Backward d) col row
   unfolding macroblock rectangle usedSample
   backward-alone = refl

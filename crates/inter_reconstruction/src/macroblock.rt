@@ -23,20 +23,22 @@ use forming_predictions::predict_block;
 use forming_predictions::predict_field_block;
 use pmv::kinds::ChromaFormat;
 ghost use mathlib.Core.Path.{_≡_};
-ghost use Prim.Native.Nat.{ℕ, _+_, _*_, _≤_};
+ghost use mathlib.Core.List.{_++_};
+ghost use Prim.Native.Nat.{_+_, _*_, _≤_};
 ghost use lib.ListN.{length};
 ghost use Rattle.laws.specs.Tabulate.{tabulate};
-ghost use Rattle.combine_predictions.specs.Averaging.{mean2};
 ghost use Rattle.combine_predictions.specs.Refusals.{unlessRefused};
 ghost use Rattle.forming_predictions.specs.Means.{rounded};
 ghost use Rattle.inter_reconstruction.specs.declared.motion.DirectionMotion.the-variants.{Frame, Field};
+ghost use Rattle.inter_reconstruction.specs.declared.motion.Uses.the-variants.{Both};
+ghost use Rattle.inter_reconstruction.specs.Components.{ColourComponent};
 ghost use Rattle.inter_reconstruction.specs.Motion.{frameUses, fieldUses};
 ghost use Rattle.inter_reconstruction.specs.Frames.{readPlane, samplesOf, readFrame, lengthsOf, isPresent, readReference};
 ghost use Rattle.inter_reconstruction.specs.Macroblock.{fieldSample, directionSample, usedSample, rectangle, predicted};
-ghost use Rattle.inter_reconstruction.specs.Refusals.{sameGeometry, planesFit, referencesRefusal, predictionRefusal};
+ghost use Rattle.inter_reconstruction.specs.Refusals.{sameGeometry, planesFit, oneRefusal, referencesRefusal, predictionRefusal};
 ghost use Rattle.inter_reconstruction.specs.Answers.{predictionAnswer, predictionNumber};
 ghost use Rattle.inter_reconstruction.specs.inner.Blocks.{PlaneFits, BlockAt, FieldRows, HalvesAt, fieldHalves, interleavedCell, forwardBytes};
-ghost use Rattle.inter_reconstruction.specs.inner.Planes.{FrameFits, CellFits, chromaBlocks, frameRefusal, framesRefusal};
+ghost use Rattle.inter_reconstruction.specs.inner.Planes.{FrameFits, CellFits, BlocksFit, directedPart, directed, chromaBlocks, frameRefusal, framesRefusal, missingIn};
 
 /// Refusal: the column or the row is over 1,023.
 pub const CELL_TOO_FAR: u8 = 13;
@@ -261,27 +263,6 @@ fn store_chosen(direction: PredictionDirection, block: &[u8], out: &mut [u8])
     copy_samples(chosen, out);
 }
 
-/// The block of a macroblock with one direction: predicted into a local block, chosen, and copied.
-fn predict_one(
-    direction: PredictionDirection,
-    plane: ReferencePlane,
-    samples: &[u8],
-    x: usize,
-    y: usize,
-    width: usize,
-    height: usize,
-    motion: DirectionMotion,
-    out: &mut [u8],
-)
-    requires { ⌜ PlaneFits plane (now samples) × BlockAt x y width height (length (now out)) × FieldRows y height ⌝ }
-    ensures { λ r. ⌜ now (out .exit) ≡ rectangle width height (directionSample rounded (readPlane plane (now (samples .entry))) motion) x y ⌝ }
-{
-    let mut block = [0u8; 256];
-    let n = width * height;
-    predict_direction(plane, samples, x, y, width, height, motion, &mut block[..n]);
-    store_chosen(direction, &block[..n], out);
-}
-
 /// The block of a macroblock with two directions: each predicted into a local block, then averaged.
 fn predict_two(
     forward: ReferencePlane,
@@ -297,7 +278,7 @@ fn predict_two(
     out: &mut [u8],
 )
     requires { ⌜ PlaneFits forward (now «forward_samples») × PlaneFits backward (now «backward_samples») × BlockAt x y width height (length (now out)) × FieldRows y height ⌝ }
-    ensures { λ r. ⌜ now (out .exit) ≡ rectangle width height (λ (a b : ℕ). mean2 (directionSample rounded (readPlane forward (now («forward_samples» .entry))) «forward_motion» a b) (directionSample rounded (readPlane backward (now («backward_samples» .entry))) «backward_motion» a b)) x y ⌝ }
+    ensures { λ r. ⌜ now (out .exit) ≡ rectangle width height (usedSample rounded (readPlane forward (now («forward_samples» .entry))) (readPlane backward (now («backward_samples» .entry))) (Both «forward_motion» «backward_motion»)) x y ⌝ }
 {
     let mut first = [0u8; 256];
     let mut second = [0u8; 256];
@@ -325,70 +306,111 @@ fn predict_two(
     average_predictions(&first[..n], &second[..n], out);
 }
 
-/// The block of a component, from the directions that are used. The plane of a direction that is not used may be any: it is not read.
-fn predict_component(
-    uses: Uses,
-    forward: ReferencePlane,
-    forward_samples: &[u8],
-    backward: ReferencePlane,
-    backward_samples: &[u8],
-    x: usize,
-    y: usize,
-    width: usize,
-    height: usize,
-    out: &mut [u8],
+// ---- the three components of one direction
+
+/// The three blocks of one direction.
+fn predict_blocks(
+    motion: DirectionMotion,
+    chroma_format: ChromaFormat,
+    frame: FrameBuffer,
+    y: &[u8],
+    cb: &[u8],
+    cr: &[u8],
+    mb_col: usize,
+    mb_row: usize,
+    y_block: &mut [u8],
+    cb_block: &mut [u8],
+    cr_block: &mut [u8],
 )
-    requires { ⌜ PlaneFits forward (now «forward_samples») × PlaneFits backward (now «backward_samples») × BlockAt x y width height (length (now out)) × FieldRows y height ⌝ }
-    ensures { λ r. ⌜ now (out .exit) ≡ rectangle width height (usedSample rounded (readPlane forward (now («forward_samples» .entry))) (readPlane backward (now («backward_samples» .entry))) uses) x y ⌝ }
+    requires { ⌜ FrameFits frame (samplesOf (now y) (now cb) (now cr)) × BlocksFit «chroma_format» «mb_col» «mb_row» (length (now «y_block»)) (length (now «cb_block»)) (length (now «cr_block»)) ⌝ }
+    ensures luminance { λ r. ⌜ now («y_block» .exit) ≡ directedPart «chroma_format» (readFrame frame (samplesOf (now (y .entry)) (now (cb .entry)) (now (cr .entry)))) motion ColourComponent.luma «mb_col» «mb_row» ⌝ }
+    ensures blue { λ r. ⌜ now («cb_block» .exit) ≡ directedPart «chroma_format» (readFrame frame (samplesOf (now (y .entry)) (now (cb .entry)) (now (cr .entry)))) motion ColourComponent.cb «mb_col» «mb_row» ⌝ }
+    ensures red { λ r. ⌜ now («cr_block» .exit) ≡ directedPart «chroma_format» (readFrame frame (samplesOf (now (y .entry)) (now (cb .entry)) (now (cr .entry)))) motion ColourComponent.cr «mb_col» «mb_row» ⌝ }
 {
-    match uses {
-        Uses::Forward(d) => predict_one(
-            PredictionDirection::Forward,
-            forward,
-            forward_samples,
-            x,
-            y,
-            width,
-            height,
-            d,
-            out,
-        ),
-        Uses::Backward(e) => predict_one(
-            PredictionDirection::Backward,
-            backward,
-            backward_samples,
-            x,
-            y,
-            width,
-            height,
-            e,
-            out,
-        ),
-        Uses::Both(d, e) => predict_two(
-            forward,
-            forward_samples,
-            d,
-            backward,
-            backward_samples,
-            e,
-            x,
-            y,
-            width,
-            height,
-            out,
-        ),
-    }
+    let size = chroma_mb_extent(chroma_format);
+    let width = size.width;
+    let height = size.height;
+    let chroma = motion.chroma(chroma_format);
+    let y_plane = frame.y;
+    let cb_plane = frame.cb;
+    let cr_plane = frame.cr;
+    let x = mb_col * width;
+    let line = mb_row * height;
+    predict_direction(
+        y_plane,
+        y,
+        mb_col * 16,
+        mb_row * 16,
+        16,
+        16,
+        motion,
+        y_block,
+    );
+    predict_direction(cb_plane, cb, x, line, width, height, chroma, cb_block);
+    predict_direction(cr_plane, cr, x, line, width, height, chroma, cr_block);
 }
 
-// ---- the three components, one after the other in one buffer
+/// Writes the three blocks of the one direction that there is.
+fn store_blocks(direction: PredictionDirection, y: &[u8], cb: &[u8], cr: &[u8], out: &mut [u8])
+    requires { ⌜ length (now out) ≡ length (now y) + (length (now cb) + length (now cr)) ⌝ }
+    ensures { λ r. ⌜ now (out .exit) ≡ now (y .entry) ++ (now (cb .entry) ++ now (cr .entry)) ⌝ }
+{
+    let a = y.len();
+    let b = a + cb.len();
+    let e = out.len();
+    store_chosen(direction, y, &mut out[0..a]);
+    store_chosen(direction, cb, &mut out[a..b]);
+    store_chosen(direction, cr, &mut out[b..e]);
+}
+
+/// A macroblock with one direction. All three blocks are predicted before the first is copied: a copy that at once reads what was written
+/// in smaller parts waits until that is in memory.
+fn predict_from_one(
+    direction: PredictionDirection,
+    motion: DirectionMotion,
+    chroma_format: ChromaFormat,
+    frame: FrameBuffer,
+    y: &[u8],
+    cb: &[u8],
+    cr: &[u8],
+    mb_col: usize,
+    mb_row: usize,
+    out: &mut [u8],
+)
+    requires { ⌜ FrameFits frame (samplesOf (now y) (now cb) (now cr)) × CellFits «chroma_format» «mb_col» «mb_row» (length (now out)) ⌝ }
+    ensures { λ r. ⌜ now (out .exit) ≡ directed «chroma_format» (readFrame frame (samplesOf (now (y .entry)) (now (cb .entry)) (now (cr .entry)))) motion «mb_col» «mb_row» ⌝ }
+{
+    let size = chroma_mb_extent(chroma_format);
+    let n = size.width * size.height;
+    let mut y_block = [0u8; 256];
+    let mut cb_block = [0u8; 256];
+    let mut cr_block = [0u8; 256];
+    predict_blocks(
+        motion,
+        chroma_format,
+        frame,
+        y,
+        cb,
+        cr,
+        mb_col,
+        mb_row,
+        &mut y_block,
+        &mut cb_block[..n],
+        &mut cr_block[..n],
+    );
+    store_blocks(direction, &y_block, &cb_block[..n], &cr_block[..n], out);
+}
+
+// ---- the three components of two directions
 
 /// Both chrominance components, one after the other.
 fn predict_chroma(
-    uses: Uses,
+    forward_motion: DirectionMotion,
     forward_cb_plane: ReferencePlane,
     forward_cb: &[u8],
     forward_cr_plane: ReferencePlane,
     forward_cr: &[u8],
+    backward_motion: DirectionMotion,
     backward_cb_plane: ReferencePlane,
     backward_cb: &[u8],
     backward_cr_plane: ReferencePlane,
@@ -401,28 +423,30 @@ fn predict_chroma(
 )
     requires { ⌜ PlaneFits «forward_cb_plane» (now «forward_cb») × PlaneFits «forward_cr_plane» (now «forward_cr») × PlaneFits «backward_cb_plane» (now «backward_cb») × PlaneFits «backward_cr_plane» (now «backward_cr») ⌝ }
     requires { ⌜ HalvesAt x y width height (length (now out)) × FieldRows y height ⌝ }
-    ensures { λ r. ⌜ now (out .exit) ≡ chromaBlocks (readPlane «forward_cb_plane» (now («forward_cb» .entry))) (readPlane «forward_cr_plane» (now («forward_cr» .entry))) (readPlane «backward_cb_plane» (now («backward_cb» .entry))) (readPlane «backward_cr_plane» (now («backward_cr» .entry))) uses width height x y ⌝ }
+    ensures { λ r. ⌜ now (out .exit) ≡ chromaBlocks (readPlane «forward_cb_plane» (now («forward_cb» .entry))) (readPlane «forward_cr_plane» (now («forward_cr» .entry))) (readPlane «backward_cb_plane» (now («backward_cb» .entry))) (readPlane «backward_cr_plane» (now («backward_cr» .entry))) (Both «forward_motion» «backward_motion») width height x y ⌝ }
 {
     let n = width * height;
     let e = n + n;
-    predict_component(
-        uses,
+    predict_two(
         forward_cb_plane,
         forward_cb,
+        forward_motion,
         backward_cb_plane,
         backward_cb,
+        backward_motion,
         x,
         y,
         width,
         height,
         &mut out[0..n],
     );
-    predict_component(
-        uses,
+    predict_two(
         forward_cr_plane,
         forward_cr,
+        forward_motion,
         backward_cr_plane,
         backward_cr,
+        backward_motion,
         x,
         y,
         width,
@@ -431,9 +455,10 @@ fn predict_chroma(
     );
 }
 
-/// All three components, from the directions that are used. The frame of a direction that is not used may be any: it is not read.
-fn predict_planes(
-    uses: Uses,
+/// A macroblock with two directions.
+fn predict_from_two(
+    forward_motion: DirectionMotion,
+    backward_motion: DirectionMotion,
     chroma_format: ChromaFormat,
     forward: FrameBuffer,
     forward_y: &[u8],
@@ -448,12 +473,13 @@ fn predict_planes(
     out: &mut [u8],
 )
     requires { ⌜ FrameFits forward (samplesOf (now «forward_y») (now «forward_cb») (now «forward_cr»)) × FrameFits backward (samplesOf (now «backward_y») (now «backward_cb») (now «backward_cr»)) × CellFits «chroma_format» «mb_col» «mb_row» (length (now out)) ⌝ }
-    ensures { λ r. ⌜ now (out .exit) ≡ predicted rounded «chroma_format» (readFrame forward (samplesOf (now («forward_y» .entry)) (now («forward_cb» .entry)) (now («forward_cr» .entry)))) (readFrame backward (samplesOf (now («backward_y» .entry)) (now («backward_cb» .entry)) (now («backward_cr» .entry)))) uses «mb_col» «mb_row» ⌝ }
+    ensures { λ r. ⌜ now (out .exit) ≡ predicted rounded «chroma_format» (readFrame forward (samplesOf (now («forward_y» .entry)) (now («forward_cb» .entry)) (now («forward_cr» .entry)))) (readFrame backward (samplesOf (now («backward_y» .entry)) (now («backward_cb» .entry)) (now («backward_cr» .entry)))) (Both «forward_motion» «backward_motion») «mb_col» «mb_row» ⌝ }
 {
     let size = chroma_mb_extent(chroma_format);
     let width = size.width;
     let height = size.height;
-    let chroma = uses.chroma(chroma_format);
+    let forward_chroma = forward_motion.chroma(chroma_format);
+    let backward_chroma = backward_motion.chroma(chroma_format);
     let forward_y_plane = forward.y;
     let forward_cb_plane = forward.cb;
     let forward_cr_plane = forward.cr;
@@ -461,12 +487,13 @@ fn predict_planes(
     let backward_cb_plane = backward.cb;
     let backward_cr_plane = backward.cr;
     let e = out.len();
-    predict_component(
-        uses,
+    predict_two(
         forward_y_plane,
         forward_y,
+        forward_motion,
         backward_y_plane,
         backward_y,
+        backward_motion,
         mb_col * 16,
         mb_row * 16,
         16,
@@ -474,11 +501,12 @@ fn predict_planes(
         &mut out[0..256],
     );
     predict_chroma(
-        chroma,
+        forward_chroma,
         forward_cb_plane,
         forward_cb,
         forward_cr_plane,
         forward_cr,
+        backward_chroma,
         backward_cb_plane,
         backward_cb,
         backward_cr_plane,
@@ -520,10 +548,11 @@ pub fn planes_fit(frame: FrameBuffer, y: &[u8], cb: &[u8], cr: &[u8]) -> bool
     plane_fits(y_plane, y.len()) & (plane_fits(cb_plane, cb.len()) & plane_fits(cr_plane, cr.len()))
 }
 
-/// One direction, whose reference is there: 15, then 14. The frame stands for the other direction's too, which is not read.
+/// One direction, whose reference is there: 15, then 14.
 fn predict_with_one(
     dest: FrameGeometry,
-    uses: Uses,
+    direction: PredictionDirection,
+    motion: DirectionMotion,
     frame: FrameBuffer,
     y: &[u8],
     cb: &[u8],
@@ -534,7 +563,7 @@ fn predict_with_one(
 ) -> u8
     requires { ⌜ CellFits (dest .«chroma_format») «mb_col» «mb_row» (length (now out)) ⌝ }
     ensures number { λ r. ⌜ r ≡ frameRefusal dest frame (lengthsOf (samplesOf (now (y .entry)) (now (cb .entry)) (now (cr .entry)))) ⌝ }
-    ensures buffer { λ r. ⌜ now (out .exit) ≡ unlessRefused r (predicted rounded (dest .«chroma_format») (readFrame frame (samplesOf (now (y .entry)) (now (cb .entry)) (now (cr .entry)))) (readFrame frame (samplesOf (now (y .entry)) (now (cb .entry)) (now (cr .entry)))) uses «mb_col» «mb_row») (now (out .entry)) ⌝ }
+    ensures buffer { λ r. ⌜ now (out .exit) ≡ unlessRefused r (directed (dest .«chroma_format») (readFrame frame (samplesOf (now (y .entry)) (now (cb .entry)) (now (cr .entry)))) motion «mb_col» «mb_row») (now (out .entry)) ⌝ }
 {
     let declared = frame.geometry;
     if !same_geometry(declared, dest) {
@@ -544,13 +573,10 @@ fn predict_with_one(
         return OUTSIDE_DOMAIN;
     }
     let chroma_format = dest.chroma_format;
-    predict_planes(
-        uses,
+    predict_from_one(
+        direction,
+        motion,
         chroma_format,
-        frame,
-        y,
-        cb,
-        cr,
         frame,
         y,
         cb,
@@ -562,10 +588,56 @@ fn predict_with_one(
     0
 }
 
+/// The refusal of a direction whose reference is absent.
+fn missing_in(direction: PredictionDirection) -> u8
+    ensures { λ r. ⌜ r ≡ missingIn direction ⌝ }
+{
+    match direction {
+        PredictionDirection::Forward => FORWARD_MISSING,
+        PredictionDirection::Backward => BACKWARD_MISSING,
+        PredictionDirection::Skipped => FORWARD_MISSING,
+    }
+}
+
+/// One direction, with its reference: 16 or 17 where that is absent.
+fn predict_alone(
+    dest: FrameGeometry,
+    direction: PredictionDirection,
+    motion: DirectionMotion,
+    reference: ReferenceFrame,
+    y: &[u8],
+    cb: &[u8],
+    cr: &[u8],
+    mb_col: usize,
+    mb_row: usize,
+    out: &mut [u8],
+) -> u8
+    requires { ⌜ CellFits (dest .«chroma_format») «mb_col» «mb_row» (length (now out)) ⌝ }
+    ensures number { λ r. ⌜ r ≡ oneRefusal (missingIn direction) dest reference (lengthsOf (samplesOf (now (y .entry)) (now (cb .entry)) (now (cr .entry)))) ⌝ }
+    ensures buffer { λ r. ⌜ now (out .exit) ≡ unlessRefused r (directed (dest .«chroma_format») (readReference reference (samplesOf (now (y .entry)) (now (cb .entry)) (now (cr .entry)))) motion «mb_col» «mb_row») (now (out .entry)) ⌝ }
+{
+    match reference {
+        ReferenceFrame::Absent => missing_in(direction),
+        ReferenceFrame::Present(frame) => predict_with_one(
+            dest,
+            direction,
+            motion,
+            frame,
+            y,
+            cb,
+            cr,
+            mb_col,
+            mb_row,
+            out,
+        ),
+    }
+}
+
 /// Both directions, whose references are there: 15 of the forward one, then of the backward one, then 14.
 fn predict_with_two(
     dest: FrameGeometry,
-    uses: Uses,
+    forward_motion: DirectionMotion,
+    backward_motion: DirectionMotion,
     forward: FrameBuffer,
     forward_y: &[u8],
     forward_cb: &[u8],
@@ -580,7 +652,7 @@ fn predict_with_two(
 ) -> u8
     requires { ⌜ CellFits (dest .«chroma_format») «mb_col» «mb_row» (length (now out)) ⌝ }
     ensures number { λ r. ⌜ r ≡ framesRefusal dest forward (lengthsOf (samplesOf (now («forward_y» .entry)) (now («forward_cb» .entry)) (now («forward_cr» .entry)))) backward (lengthsOf (samplesOf (now («backward_y» .entry)) (now («backward_cb» .entry)) (now («backward_cr» .entry)))) ⌝ }
-    ensures buffer { λ r. ⌜ now (out .exit) ≡ unlessRefused r (predicted rounded (dest .«chroma_format») (readFrame forward (samplesOf (now («forward_y» .entry)) (now («forward_cb» .entry)) (now («forward_cr» .entry)))) (readFrame backward (samplesOf (now («backward_y» .entry)) (now («backward_cb» .entry)) (now («backward_cr» .entry)))) uses «mb_col» «mb_row») (now (out .entry)) ⌝ }
+    ensures buffer { λ r. ⌜ now (out .exit) ≡ unlessRefused r (predicted rounded (dest .«chroma_format») (readFrame forward (samplesOf (now («forward_y» .entry)) (now («forward_cb» .entry)) (now («forward_cr» .entry)))) (readFrame backward (samplesOf (now («backward_y» .entry)) (now («backward_cb» .entry)) (now («backward_cr» .entry)))) (Both «forward_motion» «backward_motion») «mb_col» «mb_row») (now (out .entry)) ⌝ }
 {
     let forward_declared = forward.geometry;
     if !same_geometry(forward_declared, dest) {
@@ -597,8 +669,9 @@ fn predict_with_two(
         return OUTSIDE_DOMAIN;
     }
     let chroma_format = dest.chroma_format;
-    predict_planes(
-        uses,
+    predict_from_two(
+        forward_motion,
+        backward_motion,
         chroma_format,
         forward,
         forward_y,
@@ -615,7 +688,52 @@ fn predict_with_two(
     0
 }
 
-/// The directions that are used: 16, then 17, where their references are absent.
+/// Both directions: 16, then 17, where their references are absent.
+fn predict_both(
+    dest: FrameGeometry,
+    forward_motion: DirectionMotion,
+    backward_motion: DirectionMotion,
+    forward: ReferenceFrame,
+    forward_y: &[u8],
+    forward_cb: &[u8],
+    forward_cr: &[u8],
+    backward: ReferenceFrame,
+    backward_y: &[u8],
+    backward_cb: &[u8],
+    backward_cr: &[u8],
+    mb_col: usize,
+    mb_row: usize,
+    out: &mut [u8],
+) -> u8
+    requires { ⌜ CellFits (dest .«chroma_format») «mb_col» «mb_row» (length (now out)) ⌝ }
+    ensures number { λ r. ⌜ r ≡ referencesRefusal dest forward (lengthsOf (samplesOf (now («forward_y» .entry)) (now («forward_cb» .entry)) (now («forward_cr» .entry)))) backward (lengthsOf (samplesOf (now («backward_y» .entry)) (now («backward_cb» .entry)) (now («backward_cr» .entry)))) (Both «forward_motion» «backward_motion») ⌝ }
+    ensures buffer { λ r. ⌜ now (out .exit) ≡ unlessRefused r (predicted rounded (dest .«chroma_format») (readReference forward (samplesOf (now («forward_y» .entry)) (now («forward_cb» .entry)) (now («forward_cr» .entry)))) (readReference backward (samplesOf (now («backward_y» .entry)) (now («backward_cb» .entry)) (now («backward_cr» .entry)))) (Both «forward_motion» «backward_motion») «mb_col» «mb_row») (now (out .entry)) ⌝ }
+{
+    match forward {
+        ReferenceFrame::Absent => FORWARD_MISSING,
+        ReferenceFrame::Present(first) => match backward {
+            ReferenceFrame::Absent => BACKWARD_MISSING,
+            ReferenceFrame::Present(second) => predict_with_two(
+                dest,
+                forward_motion,
+                backward_motion,
+                first,
+                forward_y,
+                forward_cb,
+                forward_cr,
+                second,
+                backward_y,
+                backward_cb,
+                backward_cr,
+                mb_col,
+                mb_row,
+                out,
+            ),
+        },
+    }
+}
+
+/// The directions that are used.
 fn predict_used(
     dest: FrameGeometry,
     forward: ReferenceFrame,
@@ -636,55 +754,46 @@ fn predict_used(
     ensures buffer { λ r. ⌜ now (out .exit) ≡ unlessRefused r (predicted rounded (dest .«chroma_format») (readReference forward (samplesOf (now («forward_y» .entry)) (now («forward_cb» .entry)) (now («forward_cr» .entry)))) (readReference backward (samplesOf (now («backward_y» .entry)) (now («backward_cb» .entry)) (now («backward_cr» .entry)))) uses «mb_col» «mb_row») (now (out .entry)) ⌝ }
 {
     match uses {
-        Uses::Forward(d) => match forward {
-            ReferenceFrame::Absent => FORWARD_MISSING,
-            ReferenceFrame::Present(frame) => predict_with_one(
-                dest,
-                Uses::Forward(d),
-                frame,
-                forward_y,
-                forward_cb,
-                forward_cr,
-                mb_col,
-                mb_row,
-                out,
-            ),
-        },
-        Uses::Backward(e) => match backward {
-            ReferenceFrame::Absent => BACKWARD_MISSING,
-            ReferenceFrame::Present(frame) => predict_with_one(
-                dest,
-                Uses::Backward(e),
-                frame,
-                backward_y,
-                backward_cb,
-                backward_cr,
-                mb_col,
-                mb_row,
-                out,
-            ),
-        },
-        Uses::Both(d, e) => match forward {
-            ReferenceFrame::Absent => FORWARD_MISSING,
-            ReferenceFrame::Present(first) => match backward {
-                ReferenceFrame::Absent => BACKWARD_MISSING,
-                ReferenceFrame::Present(second) => predict_with_two(
-                    dest,
-                    Uses::Both(d, e),
-                    first,
-                    forward_y,
-                    forward_cb,
-                    forward_cr,
-                    second,
-                    backward_y,
-                    backward_cb,
-                    backward_cr,
-                    mb_col,
-                    mb_row,
-                    out,
-                ),
-            },
-        },
+        Uses::Forward(d) => predict_alone(
+            dest,
+            PredictionDirection::Forward,
+            d,
+            forward,
+            forward_y,
+            forward_cb,
+            forward_cr,
+            mb_col,
+            mb_row,
+            out,
+        ),
+        Uses::Backward(e) => predict_alone(
+            dest,
+            PredictionDirection::Backward,
+            e,
+            backward,
+            backward_y,
+            backward_cb,
+            backward_cr,
+            mb_col,
+            mb_row,
+            out,
+        ),
+        Uses::Both(d, e) => predict_both(
+            dest,
+            d,
+            e,
+            forward,
+            forward_y,
+            forward_cb,
+            forward_cr,
+            backward,
+            backward_y,
+            backward_cb,
+            backward_cr,
+            mb_col,
+            mb_row,
+            out,
+        ),
     }
 }
 

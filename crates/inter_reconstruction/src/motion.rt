@@ -3,7 +3,7 @@ use forming_predictions::FieldParity;
 use pmv::chroma::scale_chroma;
 use pmv::kinds::ChromaFormat;
 ghost use mathlib.Core.Path.{_≡_};
-ghost use Rattle.inter_reconstruction.specs.Motion.{zeroVector, zeroPair, frameDirection, fieldDirection, uses, frameUses, fieldUses, chromaVector, chromaField, chromaMotion, chromaUses};
+ghost use Rattle.inter_reconstruction.specs.Motion.{zeroVector, zeroPair, frameUses, fieldUses, chromaVector, chromaField, chromaMotion};
 
 /// A vector in half samples.
 pub struct MotionVectorPel {
@@ -53,7 +53,7 @@ pub enum DirectionMotion {
     Field(FieldVectorPair),
 }
 
-/// The same, where there is motion in that direction.
+/// The same, where there is motion in that direction: the definitions speak of it.
 pub enum OptionDirectionMotion {
     None,
     Some(DirectionMotion),
@@ -90,78 +90,51 @@ fn zero_pair() -> FieldVectorPair
     }
 }
 
-fn frame_direction(direction: FrameDirection) -> OptionDirectionMotion
-    ensures { λ r. ⌜ r ≡ frameDirection direction ⌝ }
-{
-    match direction {
-        FrameDirection::Absent => OptionDirectionMotion::None,
-        FrameDirection::Present(v) => OptionDirectionMotion::Some(DirectionMotion::Frame(v)),
-    }
-}
-
-fn field_direction(direction: FieldDirection) -> OptionDirectionMotion
-    ensures { λ r. ⌜ r ≡ fieldDirection direction ⌝ }
-{
-    match direction {
-        FieldDirection::Absent => OptionDirectionMotion::None,
-        FieldDirection::Present(p) => OptionDirectionMotion::Some(DirectionMotion::Field(p)),
-    }
-}
-
-/// Which directions are used. Where neither has motion, the forward one is, with zero vectors. That a reference is there changes nothing:
-/// one that is used and absent is refused.
-fn uses_of(
-    still: DirectionMotion,
-    forward: OptionDirectionMotion,
-    backward: OptionDirectionMotion,
-    forward_present: bool,
-    backward_present: bool,
-) -> Uses
-    ensures { λ r. ⌜ r ≡ uses still forward backward «forward_present» «backward_present» ⌝ }
-{
-    match forward {
-        OptionDirectionMotion::None => match backward {
-            OptionDirectionMotion::None => Uses::Forward(still),
-            OptionDirectionMotion::Some(e) => Uses::Backward(e),
-        },
-        OptionDirectionMotion::Some(d) => match backward {
-            OptionDirectionMotion::None => Uses::Forward(d),
-            OptionDirectionMotion::Some(e) => Uses::Both(d, e),
-        },
-    }
-}
-
 impl FrameMotion {
-    /// The directions that are used, with their motion.
+    /// The directions that are used, with their motion. Where neither has motion, the forward one is, with zero vectors. That a reference is
+    /// there changes nothing: one that is used and absent is refused. Each kind of motion has a match of its own: one on `DirectionMotion`, for
+    /// both, would copy all of its bytes at once, and wait for the stores before it.
     pub fn uses(self, forward_present: bool, backward_present: bool) -> Uses
         ensures { λ r. ⌜ r ≡ frameUses self «forward_present» «backward_present» ⌝ }
     {
         let forward = self.forward;
         let backward = self.backward;
-        uses_of(
-            DirectionMotion::Frame(zero_vector()),
-            frame_direction(forward),
-            frame_direction(backward),
-            forward_present,
-            backward_present,
-        )
+        match forward {
+            FrameDirection::Absent => match backward {
+                FrameDirection::Absent => Uses::Forward(DirectionMotion::Frame(zero_vector())),
+                FrameDirection::Present(e) => Uses::Backward(DirectionMotion::Frame(e)),
+            },
+            FrameDirection::Present(d) => match backward {
+                FrameDirection::Absent => Uses::Forward(DirectionMotion::Frame(d)),
+                FrameDirection::Present(e) => Uses::Both(
+                    DirectionMotion::Frame(d),
+                    DirectionMotion::Frame(e),
+                ),
+            },
+        }
     }
 }
 
 impl FieldBasedMotion {
-    /// The directions that are used, with their motion.
+    /// The same by field vectors.
     pub fn uses(self, forward_present: bool, backward_present: bool) -> Uses
         ensures { λ r. ⌜ r ≡ fieldUses self «forward_present» «backward_present» ⌝ }
     {
         let forward = self.forward;
         let backward = self.backward;
-        uses_of(
-            DirectionMotion::Field(zero_pair()),
-            field_direction(forward),
-            field_direction(backward),
-            forward_present,
-            backward_present,
-        )
+        match forward {
+            FieldDirection::Absent => match backward {
+                FieldDirection::Absent => Uses::Forward(DirectionMotion::Field(zero_pair())),
+                FieldDirection::Present(e) => Uses::Backward(DirectionMotion::Field(e)),
+            },
+            FieldDirection::Present(d) => match backward {
+                FieldDirection::Absent => Uses::Forward(DirectionMotion::Field(d)),
+                FieldDirection::Present(e) => Uses::Both(
+                    DirectionMotion::Field(d),
+                    DirectionMotion::Field(e),
+                ),
+            },
+        }
     }
 }
 
@@ -201,19 +174,6 @@ impl DirectionMotion {
                     bottom: chroma_field(chroma_format, bottom),
                 })
             }
-        }
-    }
-}
-
-impl Uses {
-    /// The same directions, with the motion of the chrominance.
-    pub fn chroma(self, chroma_format: ChromaFormat) -> Self
-        ensures { λ r. ⌜ r ≡ chromaUses «chroma_format» self ⌝ }
-    {
-        match self {
-            Uses::Forward(d) => Uses::Forward(d.chroma(chroma_format)),
-            Uses::Backward(e) => Uses::Backward(e.chroma(chroma_format)),
-            Uses::Both(d, e) => Uses::Both(d.chroma(chroma_format), e.chroma(chroma_format)),
         }
     }
 }

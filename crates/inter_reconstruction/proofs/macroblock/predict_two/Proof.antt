@@ -1,13 +1,13 @@
 -- `predict_two` meets its contract.
 -- Assumes nothing.
 use mathlib.Core.List.{List}
-use mathlib.Core.Path.{_≡_, sym, ap, _∙_}
+use mathlib.Core.Path.{_≡_, refl, sym, ap, _∙_}
 use Prim.Native.Nat.{ℕ, _*_, _≤_}
 use lib.ListN.{length, drop}
 use borrow.Author.Needs.{needs}
-use Rattle.inter_reconstruction.proofs.Rectangles.{rectangle-length, block-small, with-count, averaged-is}
+use Rattle.inter_reconstruction.proofs.Rectangles.{rectangle-length, rectangle-ext, block-small, with-count, averaged-is}
 use Rattle.inter_reconstruction.proofs.macroblock.predict_two.Statement.{statement}
-use Rattle.inter_reconstruction.specs.Macroblock.{directionSample}
+use Rattle.inter_reconstruction.specs.Macroblock.{directionSample, usedSample}
 use Rattle.inter_reconstruction.proofs.Begun.{blank, prefix-length, front-is, front-within, front-length}
 use Rattle.forming_predictions.specs.Means.{rounded}
 use Rattle.inter_reconstruction.proofs.macroblock.predict_two.Tie as tie
@@ -90,6 +90,7 @@ same-length : tie.Need-same-length
 same-length c = search needs
 
 returns : tie.Need-returns
+unfolding usedSample
 returns c =
     let v = c .before .before in
     let q = v .before .before .before .before .before in
@@ -102,6 +103,7 @@ returns c =
     (s .pre .2 .count)
     (v .average-predictions .ensures .0)
     (v .average-predictions .ensures .1)
+    ∙ rectangle-ext _ _ _ _ _ _ (λ i j. refl)
 
 pub predict-two-spec : {M : Type 1} → statement M
 predict-two-spec =

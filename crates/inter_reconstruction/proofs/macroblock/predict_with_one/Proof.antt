@@ -28,11 +28,11 @@ planes-fit-requires c κs = search needs
 returns-2 : tie.Need-returns-2
 returns-2 c = rw (same (c .before .before), was-false _ _ (c .before .planes-fit .ensures) (c .if2 .taken)) (refl, refl)
 
-predict-planes-requires : tie.Need-predict-planes-requires
-predict-planes-requires c κs =
+predict-from-one-requires : tie.Need-predict-from-one-requires
+predict-from-one-requires c κs =
     let s = c .before .before .before .before .before .before .before .before .before .before in
     let f = frame-fits (s .args .frame) (let a = s .args in (samplesOf (a .y .now) (a .cb .now) (a .cr .now))) (fit (c .before)) in
-    (f, f, s .pre)
+    (f, s .pre)
 
 same-length : tie.Need-same-length
 same-length c = search needs
@@ -41,7 +41,7 @@ returns-3 : tie.Need-returns-3
 returns-3 c =
     let p = c .before .before in
     let e = p .before .before in
-    rw (same (e .before .before), fit e) (refl, p .predict-planes .ensures)
+    rw (same (e .before .before), fit e) (refl, p .predict-from-one .ensures)
 
 pub predict-with-one-spec : {M : Type 1} → statement M
 predict-with-one-spec =
@@ -51,6 +51,6 @@ predict-with-one-spec =
     returns
     planes-fit-requires
     returns-2
-    predict-planes-requires
+    predict-from-one-requires
     same-length
     returns-3)

@@ -51,8 +51,8 @@ returns-4 c =
     let e = f .before .before in
     rw (same (e .before .before .before), same2 e, fit f, was-false _ _ (c .before .planes-fit2 .ensures) (c .if4 .taken)) (refl, refl)
 
-predict-planes-requires : tie.Need-predict-planes-requires
-predict-planes-requires c κs =
+predict-from-two-requires : tie.Need-predict-from-two-requires
+predict-from-two-requires c κs =
     let g = c .before in
     let f = g .before .before in
     let s = start (f .before .before .before .before .before) in
@@ -71,7 +71,7 @@ returns-5 c =
     let g = p .before .before in
     let f = g .before .before in
     let e = f .before .before in
-    rw (same (e .before .before .before), same2 e, fit f, fit2 g) (refl, p .predict-planes .ensures)
+    rw (same (e .before .before .before), same2 e, fit f, fit2 g) (refl, p .predict-from-two .ensures)
 
 pub predict-with-two-spec : {M : Type 1} → statement M
 predict-with-two-spec =
@@ -85,6 +85,6 @@ predict-with-two-spec =
     returns-3
     planes-fit-requires-2
     returns-4
-    predict-planes-requires
+    predict-from-two-requires
     same-length
     returns-5)

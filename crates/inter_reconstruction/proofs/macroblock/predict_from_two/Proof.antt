@@ -1,4 +1,4 @@
--- `predict_planes` meets its contract.
+-- `predict_from_two` meets its contract.
 -- Assumes nothing.
 use mathlib.Core.List.{List}
 use mathlib.Core.Path.{_≡_, ap, _∙_}
@@ -9,17 +9,18 @@ use borrow.Author.Needs.{needs}
 use borrow.Rule.Slice.PartMut.{putMid}
 use Rattle.inter_reconstruction.specs.Components.{luma, cb, cr}
 use Rattle.forming_predictions.proofs.Blocks.{front}
-use Rattle.inter_reconstruction.proofs.macroblock.predict_planes.Tie as tie
-use Rattle.inter_reconstruction.proofs.macroblock.predict_planes.Statement.{statement}
+use Rattle.inter_reconstruction.proofs.macroblock.predict_from_two.Tie as tie
+use Rattle.inter_reconstruction.proofs.macroblock.predict_from_two.Statement.{statement}
 use Rattle.laws.proofs.Parts.{part-length}
 use Rattle.inter_reconstruction.proofs.Cells.{luma-at, luma-rows, chroma-rows, chroma-left, chroma-top, chroma-total, chroma-at, chroma-length, parts-are}
 use Rattle.inter_reconstruction.proofs.Rectangles.{rectangle-length}
 use Rattle.inter_reconstruction.proofs.Begun.{Begun, begun-first, begun-length, begun-rest}
 use Rattle.inter_reconstruction.specs.Frames.{samplesOf, readFrame}
+use Rattle.inter_reconstruction.specs.declared.motion.Uses.the-variants.{Both}
 
 -- the chrominance's sides, and the entry
 abbrev extent : tie.After-backward-cr-plane → tie.After-chroma-mb-extent
-extent c = c .before .before .before .before .before .before .before
+extent c = c .before .before .before .before .before .before .before .before
 
 abbrev entry : tie.After-chroma-mb-extent → tie.Start
 entry c = c .before .before .before .before .before .before .before .before
@@ -38,16 +39,16 @@ top : (c : tie.After-chroma-mb-extent) → entry c .args .mb-row * c .chroma-mb-
 top c = chroma-top (entry c .args .chroma-format) _ _ (c .chroma-mb-extent .ensures .0) (c .chroma-mb-extent .ensures .1) (entry c .pre .2)
 
 -- what the first call left
-abbrev written : tie.After-predict-component → List ℕ
-written c = c .predict-component .last .1 .1 .1 .1 .1 .1 .1 .1 .1 .0
+abbrev written : tie.After-predict-two → List ℕ
+written c = c .predict-two .last .1 .1 .1 .1 .1 .1 .1 .1 .1 .1 .0
 
 abbrev written2 : tie.After-predict-chroma → List ℕ
-written2 c = c .predict-chroma .last .1 .1 .1 .1 .1 .1 .1 .1 .1 .1 .1 .1 .1 .0
+written2 c = c .predict-chroma .last .1 .1 .1 .1 .1 .1 .1 .1 .1 .1 .1 .1 .1 .1 .0
 
-written-length : (c : tie.After-predict-component) → length (written c) ≡ 256
-written-length c = ap length (c .predict-component .ensures) ∙ rectangle-length _ _ _ _ _
+written-length : (c : tie.After-predict-two) → length (written c) ≡ 256
+written-length c = ap length (c .predict-two .ensures) ∙ rectangle-length _ _ _ _ _
 
-begun : (c : tie.After-predict-component)
+begun : (c : tie.After-predict-two)
     → (let s = at (c .before .before) in Begun (written c) (s .args .out .now) (putMid 0 (256 - 0) (s .args .out .now) (written c)))
 begun c = begun-first 256 _ _ (written-length c) (omega (arith, total (extent (c .before .before))))
 
@@ -57,23 +58,26 @@ chroma-mb-extent-requires c κs = search needs
 chroma-requires : tie.Need-chroma-requires
 chroma-requires c κs = search needs
 
-mul-predict-component : tie.Need-mul-predict-component
-mul-predict-component c = search needs
+chroma-requires-2 : tie.Need-chroma-requires-2
+chroma-requires-2 c κs = search needs
 
-mul-predict-component-2 : tie.Need-mul-predict-component-2
-mul-predict-component-2 c = search needs
+mul-predict-two : tie.Need-mul-predict-two
+mul-predict-two c = search needs
 
-sub-predict-component : tie.Need-sub-predict-component
-sub-predict-component c = search needs
+mul-predict-two-2 : tie.Need-mul-predict-two-2
+mul-predict-two-2 c = search needs
 
-part-predict-component-start : tie.Need-part-predict-component-start
-part-predict-component-start c = search needs
+sub-predict-two : tie.Need-sub-predict-two
+sub-predict-two c = search needs
 
-part-predict-component-end : tie.Need-part-predict-component-end
-part-predict-component-end c = search needs
+part-predict-two-start : tie.Need-part-predict-two-start
+part-predict-two-start c = search needs
 
-predict-component-requires : tie.Need-predict-component-requires
-predict-component-requires c κs =
+part-predict-two-end : tie.Need-part-predict-two-end
+part-predict-two-end c = search needs
+
+predict-two-requires : tie.Need-predict-two-requires
+predict-two-requires c κs =
     let s = at (c .before) in
     (s .pre .0 luma, s .pre .1 luma, luma-at _ (s .pre .2) (front (s .args .out .now) 256 (omega (arith, total (extent (c .before))))), luma-rows (s .args .mb-row))
 
@@ -122,21 +126,22 @@ returns c =
     let backward = readFrame (a .backward) (samplesOf (a .backward-y .now) (a .backward-cb .now) (a .backward-cr .now)) in
     let rest = ap length (q .predict-chroma .ensures) ∙ chroma-length _ _ _ _ _ _ _ _ _ in
     begun-rest 256 (written2 q) (begun p) (written-length p) (omega (arith, rest, total k))
-    ∙ parts-are (a .chroma-format) _ _ (k .chroma-mb-extent .ensures .0) (k .chroma-mb-extent .ensures .1) forward backward (a .uses) _ (a .mb-col) (a .mb-row) _ _
-    (r .before .before .before .before .before .before .chroma .ensures) (p .predict-component .ensures) (q .predict-chroma .ensures)
+    ∙ parts-are (a .chroma-format) _ _ (k .chroma-mb-extent .ensures .0) (k .chroma-mb-extent .ensures .1) forward backward (Both (a .forward-motion) (a .backward-motion)) _ (a .mb-col) (a .mb-row) _ _
+    (λ i. Both (r .before .before .before .before .before .before .before .chroma .ensures i) (r .before .before .before .before .before .before .chroma2 .ensures i)) (p .predict-two .ensures) (q .predict-chroma .ensures)
 
-pub predict-planes-spec : {M : Type 1} → statement M
-predict-planes-spec =
+pub predict-from-two-spec : {M : Type 1} → statement M
+predict-from-two-spec =
     tie.close
     (tie.spec
     chroma-mb-extent-requires
     chroma-requires
-    mul-predict-component
-    mul-predict-component-2
-    sub-predict-component
-    part-predict-component-start
-    part-predict-component-end
-    predict-component-requires
+    chroma-requires-2
+    mul-predict-two
+    mul-predict-two-2
+    sub-predict-two
+    part-predict-two-start
+    part-predict-two-end
+    predict-two-requires
     mul-predict-chroma
     mul-predict-chroma-2
     sub-predict-chroma
