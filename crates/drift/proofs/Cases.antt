@@ -26,7 +26,7 @@ use Rattle.inter_reconstruction.specs.declared.frames.FrameGeometry.{FrameGeome
 use Rattle.inter_reconstruction.specs.declared.motion.FrameDirection.the-variants as Frame
 use Rattle.inter_reconstruction.specs.declared.motion.FieldDirection.the-variants as Field
 use Rattle.inter_reconstruction.specs.declared.motion.FieldVectorPair.{FieldVectorPair}
-use Rattle.drift.specs.Steps.{Step, frameBased, fieldBased, Pictures, predictionNumber, prediction, placingNumber, placement, afterSteps}
+use Rattle.drift.specs.Steps.{Step, frameBased, fieldBased, Pictures, stepPredictionRefusal, prediction, stepPlacingRefusal, placement, afterSteps}
 use Rattle.drift.specs.Unrounded.{tableRefusal, unroundedPrediction, unroundedPlacement, afterUnroundedSteps, inUnits}
 use Rattle.drift.specs.Drift.{Fitting, InRange, Near}
 use Rattle.drift.proofs.Runs.{drift}
@@ -80,7 +80,7 @@ abbrev MeetsAbove : ℕ → Type 0
 MeetsAbove n = 4 * (8 ^ n * sampleOf (each brighter n) rows n 128) ≡ 4 * unroundedOf (each brighter n) rows n 128 + 4 * n * 8 ^ n
 
 pub meets-above : All MeetsAbove (1 ∷ 2 ∷ 3 ∷ 4 ∷ [])
-unfolding tabulate floorHalf halfFlag fieldLines clampTo rowOf sampleAt combined formed planeFits truncHalf fieldSample directionSample usedSample rectangle macroblock sameGeometry planesFit stored pictureFits wellFormed predictionNumber prediction placingNumber placement tableRefusal unroundedPrediction unroundedPlacement
+unfolding tabulate floorHalf halfFlag fieldLines clampTo rowOf sampleAt combined formed planeFits truncHalf fieldSample directionSample usedSample rectangle macroblock sameGeometry planesFit stored pictureFits wellFormed stepPredictionRefusal prediction stepPlacingRefusal placement tableRefusal unroundedPrediction unroundedPlacement
 meets-above = (refl, (refl, (refl, (refl, tt))))
 
 -- ---- n / 4 below: d (d - 1) / 2 at column x and row y, where d is x - y. Half a sample to the right and down, the sum of four samples is one
@@ -108,7 +108,7 @@ abbrev MeetsBelow : ℕ → Type 0
 MeetsBelow n = 4 * unroundedOf (each unchanged n) hollow n 19 ≡ 4 * (8 ^ n * sampleOf (each unchanged n) hollow n 19) + n * 8 ^ n
 
 pub meets-below : All MeetsBelow (1 ∷ 2 ∷ 3 ∷ 4 ∷ [])
-unfolding tabulate floorHalf halfFlag fieldLines clampTo rowOf sampleAt combined formed planeFits truncHalf fieldSample directionSample usedSample rectangle macroblock sameGeometry planesFit stored pictureFits wellFormed predictionNumber prediction placingNumber placement tableRefusal unroundedPrediction unroundedPlacement
+unfolding tabulate floorHalf halfFlag fieldLines clampTo rowOf sampleAt combined formed planeFits truncHalf fieldSample directionSample usedSample rectangle macroblock sameGeometry planesFit stored pictureFits wellFormed stepPredictionRefusal prediction stepPlacingRefusal placement tableRefusal unroundedPrediction unroundedPlacement
 meets-below = (refl, (refl, (refl, (refl, tt))))
 
 -- ---- a list with field-based prediction and with steps that are refused
@@ -171,7 +171,7 @@ in-range = (
 
 -- a sample of picture 2 on both sides, 9 beside 8 1/8 grey steps, and what the claim says of it
 pub both-sides : (sampleOf steps hollow 2 37 ≡ 9) × (unroundedOf steps hollow 2 37 ≡ 520)
-unfolding tabulate floorHalf halfFlag fieldLines clampTo rowOf sampleAt combined formed planeFits truncHalf fieldSample directionSample usedSample rectangle macroblock sameGeometry planesFit stored pictureFits wellFormed predictionNumber prediction placingNumber placement tableRefusal unroundedPrediction unroundedPlacement
+unfolding tabulate floorHalf halfFlag fieldLines clampTo rowOf sampleAt combined formed planeFits truncHalf fieldSample directionSample usedSample rectangle macroblock sameGeometry planesFit stored pictureFits wellFormed stepPredictionRefusal prediction stepPlacingRefusal placement tableRefusal unroundedPrediction unroundedPlacement
 both-sides = (refl, refl)
 
 pub instance : Near 2 8 2 (sampleOf steps hollow 2 37) (unroundedOf steps hollow 2 37)

@@ -20,7 +20,7 @@ use Rattle.inter_reconstruction.specs.Frames.{planeOf, readFrame, readReference
 use Rattle.inter_reconstruction.specs.declared.frames.FrameGeometry.{FrameGeometry}
 use Rattle.drift.specs.Steps.{Step, stepUses, Pictures, replaced, fitting, reference, referenceSamples, prediction, placement, afterStep, afterSteps}
 use Rattle.drift.specs.Unrounded.{unrounded, tableRefusal, unroundedReading, unroundedPrediction, unroundedPlacement, afterUnrounded, afterUnroundedSteps, inUnits}
-use Rattle.drift.specs.Drift.{Fitting, Lower, InRange, DriftWithin}
+use Rattle.drift.specs.Drift.{Fitting, Lower, InRange, DriftFigure}
 use Rattle.drift.proofs.Keeps.{Alike, predicted-alike, placed-alike}
 use Rattle.drift.proofs.Bounds.{Drifted, drifted-near, Read, Direction, Predicted, keeps, lift, land, read-zero, predicted-zero, drifted-first, drifted-zero}
 use Rattle.drift.proofs.Steps.{step-is, step-fits}
@@ -94,6 +94,6 @@ first-near k first n c h =
     }
 
 -- demand 3
-pub drift : (n : ℕ) → DriftWithin n (4 * n) n
+pub drift : DriftFigure
 drift n g k first f steps e h c i =
     drifted-near n _ _ (run-near g k steps e first (inUnits first) f (first-near k first) n c h .at i)

@@ -21,7 +21,7 @@ use Rattle.inter_reconstruction.specs.declared.motion.Uses.{Uses}
 use Rattle.inter_reconstruction.specs.declared.motion.Uses.the-variants.{Forward, Backward, Both}
 use Rattle.inter_reconstruction.proofs.Rectangles.{rectangle-length}
 use Rattle.inter_reconstruction.proofs.Stored.{stored-length}
-use Rattle.drift.specs.Steps.{Step, stepUses, Pictures, replaced, fitting, reference, referenceSamples, predictionNumber, prediction, placingNumber, placement, afterStep}
+use Rattle.drift.specs.Steps.{Step, stepUses, Pictures, replaced, fitting, reference, referenceSamples, stepPredictionRefusal, prediction, stepPlacingRefusal, placement, afterStep}
 use Rattle.drift.specs.Unrounded.{fittingLengths, tableRefusal}
 use Rattle.drift.specs.Drift.{Fitting, Lower, InRange}
 
@@ -58,12 +58,12 @@ module _ (g : FrameGeometry) (k : ℕ) (pictures : Pictures) (fit : Fitting g k 
     abbrev placingTable : ℕ
     placingTable = placingRefusal (fitting g) (fittingLengths g) (macroblockBytes (g .«chroma_format»)) (s .column) (s .row)
 
-    predicts : predictionNumber g s pictures ≡ predictionTable
-    unfolding predictionNumber
+    predicts : stepPredictionRefusal g s pictures ≡ predictionTable
+    unfolding stepPredictionRefusal
     predicts = rw (references (s .target) (r .last) (s .forward) (s .backward) (r .forward) (r .backward) (stepUses s))
 
-    places : placingNumber g s pictures ≡ placingTable
-    unfolding placingNumber prediction
+    places : stepPlacingRefusal g s pictures ≡ placingTable
+    unfolding stepPlacingRefusal prediction
     places = rw (lengths (s .target) (r .last), predicted-length rounded (g .«chroma_format») _ _ (stepUses s) (s .column) (s .row))
 
     -- one refusal after the other is the first of them

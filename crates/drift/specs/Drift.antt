@@ -36,8 +36,9 @@ pub record Near (n above below sample unrounded : ℕ) : Type 0 where
   pub high : 4 * (8 ^ n * sample) ≤ 4 * unrounded + above * 8 ^ n
   pub low : 4 * unrounded ≤ 4 * (8 ^ n * sample) + below * 8 ^ n
 
--- so does every sample of picture n, in every component, whatever the pictures were at first and whatever the steps. The sides may be any, and a
--- sample any number: that the sides are multiples of 16 up to 16,384 and the samples bytes, as the demand has it, is not needed.
+-- every sample of picture n, in every component, lies so after the steps, whatever the pictures were at first and whatever the steps are. The
+-- sides may be any, and a sample any number: that the sides are multiples of 16 up to 16,384 and the samples bytes, as the demand has it, is not
+-- needed.
 abbrev pub DriftWithin : ℕ → ℕ → ℕ → Type 0
 DriftWithin n above below =
     (g : FrameGeometry) (k : ℕ) (first : Pictures)
@@ -47,3 +48,7 @@ DriftWithin n above below =
     → n ≤ k
     → (c : ColourComponent) (i : ℕ)
     → Near n above below (getD (afterSteps g steps first n c) i 0) (getD (afterUnroundedSteps g steps (inUnits first) n c) i 0)
+
+-- demand 3: n grey steps above and n / 4 below, for every picture n
+abbrev pub DriftFigure : Type 0
+DriftFigure = (n : ℕ) → DriftWithin n (4 * n) n

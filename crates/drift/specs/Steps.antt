@@ -67,7 +67,8 @@ fittingPlane g c = record { width = columnsOf (g .«chroma_format») c (g .width
 abbrev pub fitting : FrameGeometry → FrameBuffer
 fitting g = record { geometry = g; y = fittingPlane g luma; cb = fittingPlane g cb; cr = fittingPlane g cr }
 
--- a reference as the calls get it: the frame, and beside it the samples of its planes
+-- a reference as the calls get it: the frame, and beside it the samples of its planes. Beside a reference that is absent nothing is read, and
+-- any samples would do
 abbrev pub reference : FrameGeometry → Option ℕ → ReferenceFrame
 reference g none = Absent
 reference g (some j) = Present (fitting g)
@@ -78,9 +79,10 @@ referenceSamples pictures (some j) = pictures j
 
 -- ---- a step by the calls
 
--- what the prediction refuses, with an output of a macroblock's length, and what it writes
-unfoldable pub predictionNumber : FrameGeometry → Step → Pictures → ℕ
-predictionNumber g s pictures =
+-- what the prediction refuses, and what it writes. Its output has a macroblock's length, and what is placed is that output, so that no step is
+-- refused with 18: a call that is, with a buffer of another length, changes nothing, and a list with it is the list without it
+unfoldable pub stepPredictionRefusal : FrameGeometry → Step → Pictures → ℕ
+stepPredictionRefusal g s pictures =
     predictionRefusal g (macroblockBytes (g .«chroma_format»))
     (reference g (s .forward)) (lengthsOf (referenceSamples pictures (s .forward)))
     (reference g (s .backward)) (lengthsOf (referenceSamples pictures (s .backward)))
@@ -94,8 +96,8 @@ prediction g s pictures =
     (stepUses s) (s .column) (s .row)
 
 -- what placing it in the same cell refuses, and what it leaves
-unfoldable pub placingNumber : FrameGeometry → Step → Pictures → ℕ
-placingNumber g s pictures =
+unfoldable pub stepPlacingRefusal : FrameGeometry → Step → Pictures → ℕ
+stepPlacingRefusal g s pictures =
     placingRefusal (fitting g) (lengthsOf (pictures (s .target))) (length (prediction g s pictures)) (s .column) (s .row)
 
 unfoldable pub placement : FrameGeometry → Step → Pictures → Samples
@@ -104,8 +106,8 @@ placement g s pictures = placed (fitting g) (s .column) (s .row) (prediction g s
 -- a refusal by either call changes no picture
 abbrev pub afterStep : FrameGeometry → Step → Pictures → Pictures
 afterStep g s pictures =
-    unlessRefused (predictionNumber g s pictures)
-    (unlessRefused (placingNumber g s pictures) (replaced pictures (s .target) (placement g s pictures)) pictures)
+    unlessRefused (stepPredictionRefusal g s pictures)
+    (unlessRefused (stepPlacingRefusal g s pictures) (replaced pictures (s .target) (placement g s pictures)) pictures)
     pictures
 
 -- one step after the other

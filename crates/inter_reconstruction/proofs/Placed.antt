@@ -132,3 +132,13 @@ pub placed-where-formed : (p : FrameBuffer) (planes : Samples) (bytes col row : 
 placed-where-formed p planes bytes col row r rule c a b la lb =
     let f = p .geometry .«chroma_format» in
     rw (part-is f rule col row c) (placed-inside (part-room p (lengthsOf planes) bytes col row r c) (rule c) (planes c) refl a b la lb)
+
+-- and nothing else changes
+pub placed-elsewhere : (p : FrameBuffer) (planes : Samples) (bytes col row : ℕ) → Placeable p (lengthsOf planes) bytes col row
+    → (rule : ColourComponent → ℕ → ℕ → ℕ) (c : ColourComponent) (i : ℕ)
+    → (let f = p .geometry .«chroma_format» in
+    ((a b : ℕ) → a < blockWidth f c → b < blockHeight f c → (firstRow f c row + b) * planeOf p c .width + (firstColumn f c col + a) ≡ i → ⊥)
+    → getD (placed p col row (macroblock f rule col row) planes c) i 0 ≡ getD (planes c) i 0)
+placed-elsewhere p planes bytes col row r rule c i off =
+    let f = p .geometry .«chroma_format» in
+    rw (part-is f rule col row c) (placed-outside (part-room p (lengthsOf planes) bytes col row r c) (rule c) (planes c) refl i off)

@@ -77,9 +77,11 @@ planeSidesFit p c =
 abbrev pub cellInside : FrameGeometry → ℕ → ℕ → Bool
 cellInside g col row = ltb col (g .width / 16) && ltb row (g .height / 16)
 
+-- the picture's sides and its planes' are in the domain, and each plane has as many samples as its sides say
 unfoldable pub pictureFits : FrameBuffer → (ColourComponent → ℕ) → Bool
 pictureFits p n = declaredFit (p .geometry) && planesFit p n
 
+-- its sides are whole, and its planes fit them
 unfoldable pub wellFormed : FrameBuffer → Bool
 wellFormed p = wholeSides (p .geometry) && everyComponent (planeSidesFit p)
 

@@ -10,7 +10,7 @@ mul-t3 : tie.Need-mul-t3
 mul-t3 c = search needs
 
 returns : tie.Need-returns
-returns c = ((refl, refl), drift (c .args .n))
+returns c = ((refl, refl), (drift (c .args .n), drift))
 
 pub drift-bound-spec : {M : Type 1} → statement M
 drift-bound-spec = tie.close (tie.spec mul-t3 returns)
