@@ -32,11 +32,7 @@ const LINKED: [Linked; 2] = [
         binary: "bench",
         feature: "CARGO_FEATURE_BENCH",
         default: "build/bench",
-        files: &[
-            "libbench_blocks.a",
-            "libbench_pmv.a",
-            "libfozdrik.a",
-        ],
+        files: &["libbench_blocks.a", "libbench_pmv.a", "libfozdrik.a"],
     },
     Linked {
         binary: "compare",

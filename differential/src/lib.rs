@@ -6,6 +6,7 @@
 extern crate self as oxideav_core;
 
 pub mod macroblocks;
+pub mod port;
 pub mod refusals;
 pub mod rng;
 mod shims;

@@ -3,11 +3,12 @@
 use oracle::dual_prime::FieldParity;
 use oracle::inter_reconstruction::{FieldBasedMotion, FieldVector, FrameMotion, MotionVectorPel};
 use oracle::macroblocks::{Geometry, Motion};
+use oracle::port::{fozdrik_predict_field_macroblock, fozdrik_predict_frame_macroblock};
 use oracle::sequence_extension::ChromaFormat;
 
 use super::scene::Scene;
 use crate::lent::Lent;
-use crate::port::{Reference, fozdrik_predict_field_macroblock, fozdrik_predict_frame_macroblock};
+use crate::port::Reference;
 use crate::run::Run;
 
 pub const CHROMA_FORMATS: [ChromaFormat; 3] = [

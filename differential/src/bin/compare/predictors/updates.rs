@@ -8,8 +8,8 @@ use oracle::vectors::update;
 
 use super::{Buffers, Expected, PREDICTORS, PREDICTORS_LENGTHS, Predictors, bytes, pmv as record};
 use crate::coverage::Table;
-use crate::port::fozdrik_update_predictors;
 use crate::run::{Comparison, Run, Wrong, without_meaning};
+use oracle::port::fozdrik_update_predictors;
 
 /// The right length of the outcome's buffer.
 const OUTCOME: usize = 1;

@@ -8,8 +8,8 @@ use oracle::vectors::{CODES, Coded, Mode, Vector};
 
 use super::{Buffers, Expected, PREDICTORS, PREDICTORS_LENGTHS, Predictors, bytes, pmv as record};
 use crate::coverage::Table;
-use crate::port::fozdrik_reconstruct_motion_vector;
 use crate::run::{Comparison, Run, Wrong, without_meaning};
+use oracle::port::fozdrik_reconstruct_motion_vector;
 
 /// The right length of the vector's buffer.
 const VECTOR: usize = 8;
