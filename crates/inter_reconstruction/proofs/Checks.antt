@@ -1,14 +1,15 @@
 -- What the tests of the calls say.
 -- Assumes nothing.
-use mathlib.Core.Path.{_≡_, refl, sym, _∙_}
+use mathlib.Core.Path.{_≡_, refl, sym, ap, _∙_}
+use mathlib.Core.List.{List}
 use mathlib.Core.Bool.{Bool, true, false, not, _&&_, _||_}
 use Prim.Native.Nat.{ℕ, zero, suc, _+_, _*_}
 use native.Mathlib.Omega.{arith}
-use lib.Dec.{ltb}
+use lib.Dec.{eqb}
 use lib.ListN.{length}
-use borrow.Author.Tests.{ltb-false}
+use borrow.Author.Tests.{ltb-false, eqb-true}
 use Rattle.laws.proofs.Tests.{not-taken, not-left, both}
-use Rattle.combine_predictions.specs.Refusals.{unlessRefused}
+use Rattle.combine_predictions.specs.Refusals.{wrongLength, cause, orElse, unlessRefused}
 use Rattle.combine_predictions.specs.declared.PredictionDirection.{PredictionDirection}
 use Rattle.combine_predictions.specs.declared.PredictionDirection.the-variants as PredictionDirection
 use Rattle.forming_predictions.specs.Means.{rounded}
@@ -16,17 +17,19 @@ use Rattle.forming_predictions.specs.Refusals.{planeFits}
 use Rattle.pmv.specs.declared.kinds.ChromaFormat.{ChromaFormat}
 use Rattle.inter_reconstruction.specs.declared.frames.FrameGeometry.{FrameGeometry}
 use Rattle.inter_reconstruction.specs.declared.frames.FrameBuffer.{FrameBuffer}
+use Rattle.inter_reconstruction.specs.declared.frames.ReferenceFrame.{ReferenceFrame}
 use Rattle.inter_reconstruction.specs.declared.frames.ReferenceFrame.the-variants.{Absent}
 use Rattle.inter_reconstruction.specs.declared.motion.DirectionMotion.{DirectionMotion}
+use Rattle.inter_reconstruction.specs.declared.motion.Uses.{Uses}
 use Rattle.inter_reconstruction.specs.declared.motion.Uses.the-variants.{Forward, Backward}
 use Rattle.inter_reconstruction.specs.declared.macroblock.MacroblockPrediction.{MacroblockPrediction}
 use Rattle.inter_reconstruction.specs.declared.macroblock.MacroblockPrediction.the-variants.{Refused}
 use Rattle.inter_reconstruction.specs.Components.{ColourComponent, luma, cb, cr, blockWidth, blockHeight, macroblockBytes}
 use Rattle.inter_reconstruction.specs.Frames.{Samples, lengthsOf, planeOf, Reading}
 use Rattle.inter_reconstruction.specs.Macroblock.{usedSample, rectangle, macroblock, predicted}
-use Rattle.inter_reconstruction.specs.Refusals.{planesFit, oneRefusal}
+use Rattle.inter_reconstruction.specs.Refusals.{cellTooFar, tooFar, cellRefusal, planesFit, oneRefusal, referencesRefusal, predictionRefusal}
 use Rattle.inter_reconstruction.specs.Answers.{predictionNumber, predictionAnswer}
-use Rattle.inter_reconstruction.specs.inner.Planes.{FrameFits, CellFits, directed, missingIn}
+use Rattle.inter_reconstruction.specs.inner.Planes.{FrameFits, CellFits, directed, missingIn, destinationRefusal}
 
 -- `if !f(..)`, taken and left, where f's result x is the definition's y
 pub was-false : (x y : Bool) → x ≡ y → not x ≡ true → y ≡ false
@@ -58,17 +61,6 @@ frame-fits b s e c = go c
     go cb = u .0
     go cr = u .1
 
--- the cell and the output fit
-pub cell-fits : (f : ChromaFormat) (col row n w h : ℕ)
-    → (ltb 1023 col || ltb 1023 row) ≡ false
-    → w ≡ blockWidth f cb
-    → h ≡ blockHeight f cb
-    → n ≡ 256 + (w * h + w * h)
-    → CellFits f col row n
-cell-fits f col row n w h e ew eh c =
-    let t = neither (ltb 1023 col) (ltb 1023 row) e in
-    record { column = ltb-false 1023 col (t .0); line = ltb-false 1023 row (t .1); count = c ∙ rw (ew, eh) }
-
 pub bytes-are : (f : ChromaFormat) (w h : ℕ) → w ≡ blockWidth f cb → h ≡ blockHeight f cb → 256 + (w * h + w * h) ≡ macroblockBytes f
 bytes-are f w h ew eh = rw (ew, eh)
 
@@ -85,6 +77,52 @@ answer-number (suc n) = refl
 pub by-answer : {A : Type 0} (r : MacroblockPrediction) (n : ℕ) (o new old : A)
     → r ≡ predictionAnswer n → o ≡ unlessRefused n new old → o ≡ unlessRefused (predictionNumber r) new old
 by-answer r n o new old e w = w ∙ rw (e, answer-number n)
+
+-- ---- the destination
+
+first-of : (a b c : ℕ) → (orElse a b ≡ 0 → ⊥) → orElse a (orElse b c) ≡ orElse a b
+first-of zero zero c h = absurd (h refl)
+first-of zero (suc b) c h = refl
+first-of (suc a) b c h = refl
+
+last-of : (a b c : ℕ) → orElse a b ≡ 0 → orElse a (orElse b c) ≡ c
+last-of zero zero c e = refl
+last-of zero (suc b) c e = absurd (omega (arith, e))
+last-of (suc a) b c e = absurd (omega (arith, e))
+
+module _ (dest : FrameGeometry) (n col row : ℕ) where
+  abbrev bytes-right : Bool
+  bytes-right = eqb n (macroblockBytes (dest .«chroma_format»))
+
+  pub destination-fits : destinationRefusal dest n col row ≡ 0 → CellFits (dest .«chroma_format») col row n
+  destination-fits e = go (tooFar col || tooFar row) bytes-right refl refl e
+    where
+      go : (x y : Bool) → (tooFar col || tooFar row) ≡ x → bytes-right ≡ y → orElse (cause x cellTooFar) (cause (not y) wrongLength) ≡ 0 → CellFits (dest .«chroma_format») col row n
+      go true y p q z = absurd (omega (arith, z))
+      go false false p q z = absurd (omega (arith, z))
+      go false true p q z = let t = neither (tooFar col) (tooFar row) p in record { column = ltb-false 1023 col (t .0); line = ltb-false 1023 row (t .1); count = eqb-true n _ q }
+
+  -- the call refuses by the destination, or by the references
+  module _ (f : ReferenceFrame) (k : ColourComponent → ℕ) (b : ReferenceFrame) (l : ColourComponent → ℕ) where
+    pub refused-before : {A : Type 0} (r : ℕ) (u : Uses) (new old : A) → r ≡ destinationRefusal dest n col row → (r ≡ 0 → ⊥)
+        → (Refused r ≡ predictionAnswer (predictionRefusal dest n f k b l u col row)) × (old ≡ unlessRefused r new old)
+    refused-before r u new old e h =
+        (refused-answer r h ∙ ap predictionAnswer (e ∙ sym (first-of (cellRefusal col row) (cause (not bytes-right) wrongLength) (referencesRefusal dest f k b l u) (λ z. h (e ∙ z)))), kept r new old h)
+      where
+        kept : {A : Type 0} (r : ℕ) (new old : A) → (r ≡ 0 → ⊥) → old ≡ unlessRefused r new old
+        kept zero new old h = absurd (h refl)
+        kept (suc r) new old h = refl
+
+    pub answered : (forward backward : ColourComponent → Reading) (uses u : Uses) (r : ℕ) (answer : MacroblockPrediction) (o old : List ℕ)
+        → destinationRefusal dest n col row ≡ 0
+        → uses ≡ u
+        → answer ≡ predictionAnswer r
+        → r ≡ referencesRefusal dest f k b l u
+        → o ≡ unlessRefused r (predicted rounded (dest .«chroma_format») forward backward u col row) old
+        → (answer ≡ predictionAnswer (predictionRefusal dest n f k b l uses col row))
+            × (o ≡ unlessRefused (predictionNumber answer) (predicted rounded (dest .«chroma_format») forward backward uses col row) old)
+    answered forward backward uses u r answer o old d e a q w =
+        rw e (a ∙ ap predictionAnswer (q ∙ sym (last-of (cellRefusal col row) (cause (not bytes-right) wrongLength) (referencesRefusal dest f k b l u) d)), by-answer answer r o _ old a w)
 
 -- ---- one direction
 

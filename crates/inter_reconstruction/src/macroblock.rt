@@ -38,7 +38,7 @@ ghost use Rattle.inter_reconstruction.specs.Macroblock.{fieldSample, dir
 ghost use Rattle.inter_reconstruction.specs.Refusals.{sameGeometry, planesFit, oneRefusal, referencesRefusal, predictionRefusal};
 ghost use Rattle.inter_reconstruction.specs.Answers.{predictionAnswer, predictionNumber};
 ghost use Rattle.inter_reconstruction.specs.inner.Blocks.{PlaneFits, BlockAt, FieldRows, HalvesAt, fieldHalves, interleavedCell, forwardBytes};
-ghost use Rattle.inter_reconstruction.specs.inner.Planes.{FrameFits, CellFits, BlocksFit, directedPart, directed, chromaBlocks, frameRefusal, framesRefusal, missingIn};
+ghost use Rattle.inter_reconstruction.specs.inner.Planes.{FrameFits, CellFits, BlocksFit, directedPart, directed, chromaBlocks, frameRefusal, framesRefusal, missingIn, destinationRefusal};
 
 /// Refusal: the column or the row is over 1,023.
 pub const CELL_TOO_FAR: u8 = 13;
@@ -733,88 +733,9 @@ fn predict_both(
     }
 }
 
-/// The directions that are used.
-fn predict_used(
-    dest: FrameGeometry,
-    forward: ReferenceFrame,
-    forward_y: &[u8],
-    forward_cb: &[u8],
-    forward_cr: &[u8],
-    backward: ReferenceFrame,
-    backward_y: &[u8],
-    backward_cb: &[u8],
-    backward_cr: &[u8],
-    uses: Uses,
-    mb_col: usize,
-    mb_row: usize,
-    out: &mut [u8],
-) -> u8
-    requires { ⌜ CellFits (dest .«chroma_format») «mb_col» «mb_row» (length (now out)) ⌝ }
-    ensures number { λ r. ⌜ r ≡ referencesRefusal dest forward (lengthsOf (samplesOf (now («forward_y» .entry)) (now («forward_cb» .entry)) (now («forward_cr» .entry)))) backward (lengthsOf (samplesOf (now («backward_y» .entry)) (now («backward_cb» .entry)) (now («backward_cr» .entry)))) uses ⌝ }
-    ensures buffer { λ r. ⌜ now (out .exit) ≡ unlessRefused r (predicted rounded (dest .«chroma_format») (readReference forward (samplesOf (now («forward_y» .entry)) (now («forward_cb» .entry)) (now («forward_cr» .entry)))) (readReference backward (samplesOf (now («backward_y» .entry)) (now («backward_cb» .entry)) (now («backward_cr» .entry)))) uses «mb_col» «mb_row») (now (out .entry)) ⌝ }
-{
-    match uses {
-        Uses::Forward(d) => predict_alone(
-            dest,
-            PredictionDirection::Forward,
-            d,
-            forward,
-            forward_y,
-            forward_cb,
-            forward_cr,
-            mb_col,
-            mb_row,
-            out,
-        ),
-        Uses::Backward(e) => predict_alone(
-            dest,
-            PredictionDirection::Backward,
-            e,
-            backward,
-            backward_y,
-            backward_cb,
-            backward_cr,
-            mb_col,
-            mb_row,
-            out,
-        ),
-        Uses::Both(d, e) => predict_both(
-            dest,
-            d,
-            e,
-            forward,
-            forward_y,
-            forward_cb,
-            forward_cr,
-            backward,
-            backward_y,
-            backward_cb,
-            backward_cr,
-            mb_col,
-            mb_row,
-            out,
-        ),
-    }
-}
-
-/// 13, then 18, then the references.
-fn predict_cell(
-    dest: FrameGeometry,
-    forward: ReferenceFrame,
-    forward_y: &[u8],
-    forward_cb: &[u8],
-    forward_cr: &[u8],
-    backward: ReferenceFrame,
-    backward_y: &[u8],
-    backward_cb: &[u8],
-    backward_cr: &[u8],
-    uses: Uses,
-    mb_col: usize,
-    mb_row: usize,
-    out: &mut [u8],
-) -> u8
-    ensures number { λ r. ⌜ r ≡ predictionRefusal dest (length (now (out .entry))) forward (lengthsOf (samplesOf (now («forward_y» .entry)) (now («forward_cb» .entry)) (now («forward_cr» .entry)))) backward (lengthsOf (samplesOf (now («backward_y» .entry)) (now («backward_cb» .entry)) (now («backward_cr» .entry)))) uses «mb_col» «mb_row» ⌝ }
-    ensures buffer { λ r. ⌜ now (out .exit) ≡ unlessRefused r (predicted rounded (dest .«chroma_format») (readReference forward (samplesOf (now («forward_y» .entry)) (now («forward_cb» .entry)) (now («forward_cr» .entry)))) (readReference backward (samplesOf (now («backward_y» .entry)) (now («backward_cb» .entry)) (now («backward_cr» .entry)))) uses «mb_col» «mb_row») (now (out .entry)) ⌝ }
+/// 13, then 18.
+fn destination_refusal(dest: FrameGeometry, mb_col: usize, mb_row: usize, room: usize) -> u8
+    ensures { λ r. ⌜ r ≡ destinationRefusal dest room «mb_col» «mb_row» ⌝ }
 {
     if (LAST_CELL < mb_col) | (LAST_CELL < mb_row) {
         return CELL_TOO_FAR;
@@ -822,24 +743,10 @@ fn predict_cell(
     let chroma_format = dest.chroma_format;
     let size = chroma_mb_extent(chroma_format);
     let n = size.width * size.height;
-    if out.len() != 256 + (n + n) {
+    if room != 256 + (n + n) {
         return WRONG_LENGTH;
     }
-    predict_used(
-        dest,
-        forward,
-        forward_y,
-        forward_cb,
-        forward_cr,
-        backward,
-        backward_y,
-        backward_cb,
-        backward_cr,
-        uses,
-        mb_col,
-        mb_row,
-        out,
-    )
+    0
 }
 
 /// Writes the prediction of a frame-based macroblock: luminance, then Cb, then Cr, each row after row. Nothing is written by a refusal: of a
@@ -863,21 +770,52 @@ pub fn predict_frame_macroblock_planes(
     ensures answer { λ r. ⌜ r ≡ predictionAnswer (predictionRefusal dest (length (now (out .entry))) forward (lengthsOf (samplesOf (now («forward_y» .entry)) (now («forward_cb» .entry)) (now («forward_cr» .entry)))) backward (lengthsOf (samplesOf (now («backward_y» .entry)) (now («backward_cb» .entry)) (now («backward_cr» .entry)))) (frameUses motion (isPresent forward) (isPresent backward)) «mb_col» «mb_row») ⌝ }
     ensures buffer { λ r. ⌜ now (out .exit) ≡ unlessRefused (predictionNumber r) (predicted rounded (dest .«chroma_format») (readReference forward (samplesOf (now («forward_y» .entry)) (now («forward_cb» .entry)) (now («forward_cr» .entry)))) (readReference backward (samplesOf (now («backward_y» .entry)) (now («backward_cb» .entry)) (now («backward_cr» .entry)))) (frameUses motion (isPresent forward) (isPresent backward)) «mb_col» «mb_row») (now (out .entry)) ⌝ }
 {
-    answer_of(predict_cell(
-        dest,
-        forward,
-        forward_y,
-        forward_cb,
-        forward_cr,
-        backward,
-        backward_y,
-        backward_cb,
-        backward_cr,
-        motion.uses(forward.is_present(), backward.is_present()),
-        mb_col,
-        mb_row,
-        out,
-    ))
+    let refusal = destination_refusal(dest, mb_col, mb_row, out.len());
+    if refusal != 0 {
+        return MacroblockPrediction::Refused(refusal);
+    }
+    match motion.uses(forward.is_present(), backward.is_present()) {
+        Uses::Forward(d) => answer_of(predict_alone(
+            dest,
+            PredictionDirection::Forward,
+            d,
+            forward,
+            forward_y,
+            forward_cb,
+            forward_cr,
+            mb_col,
+            mb_row,
+            out,
+        )),
+        Uses::Backward(e) => answer_of(predict_alone(
+            dest,
+            PredictionDirection::Backward,
+            e,
+            backward,
+            backward_y,
+            backward_cb,
+            backward_cr,
+            mb_col,
+            mb_row,
+            out,
+        )),
+        Uses::Both(d, e) => answer_of(predict_both(
+            dest,
+            d,
+            e,
+            forward,
+            forward_y,
+            forward_cb,
+            forward_cr,
+            backward,
+            backward_y,
+            backward_cb,
+            backward_cr,
+            mb_col,
+            mb_row,
+            out,
+        )),
+    }
 }
 
 /// The same for a field-based macroblock: the rows of each of its fields go by a vector of their own, which names the field that is read.
@@ -899,19 +837,50 @@ pub fn predict_field_based_macroblock_planes(
     ensures answer { λ r. ⌜ r ≡ predictionAnswer (predictionRefusal dest (length (now (out .entry))) forward (lengthsOf (samplesOf (now («forward_y» .entry)) (now («forward_cb» .entry)) (now («forward_cr» .entry)))) backward (lengthsOf (samplesOf (now («backward_y» .entry)) (now («backward_cb» .entry)) (now («backward_cr» .entry)))) (fieldUses motion (isPresent forward) (isPresent backward)) «mb_col» «mb_row») ⌝ }
     ensures buffer { λ r. ⌜ now (out .exit) ≡ unlessRefused (predictionNumber r) (predicted rounded (dest .«chroma_format») (readReference forward (samplesOf (now («forward_y» .entry)) (now («forward_cb» .entry)) (now («forward_cr» .entry)))) (readReference backward (samplesOf (now («backward_y» .entry)) (now («backward_cb» .entry)) (now («backward_cr» .entry)))) (fieldUses motion (isPresent forward) (isPresent backward)) «mb_col» «mb_row») (now (out .entry)) ⌝ }
 {
-    answer_of(predict_cell(
-        dest,
-        forward,
-        forward_y,
-        forward_cb,
-        forward_cr,
-        backward,
-        backward_y,
-        backward_cb,
-        backward_cr,
-        motion.uses(forward.is_present(), backward.is_present()),
-        mb_col,
-        mb_row,
-        out,
-    ))
+    let refusal = destination_refusal(dest, mb_col, mb_row, out.len());
+    if refusal != 0 {
+        return MacroblockPrediction::Refused(refusal);
+    }
+    match motion.uses(forward.is_present(), backward.is_present()) {
+        Uses::Forward(d) => answer_of(predict_alone(
+            dest,
+            PredictionDirection::Forward,
+            d,
+            forward,
+            forward_y,
+            forward_cb,
+            forward_cr,
+            mb_col,
+            mb_row,
+            out,
+        )),
+        Uses::Backward(e) => answer_of(predict_alone(
+            dest,
+            PredictionDirection::Backward,
+            e,
+            backward,
+            backward_y,
+            backward_cb,
+            backward_cr,
+            mb_col,
+            mb_row,
+            out,
+        )),
+        Uses::Both(d, e) => answer_of(predict_both(
+            dest,
+            d,
+            e,
+            forward,
+            forward_y,
+            forward_cb,
+            forward_cr,
+            backward,
+            backward_y,
+            backward_cb,
+            backward_cr,
+            mb_col,
+            mb_row,
+            out,
+        )),
+    }
 }

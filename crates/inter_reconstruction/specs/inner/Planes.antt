@@ -1,8 +1,10 @@
 -- What the functions on all three planes ask, and what they give.
 use mathlib.Core.Path.{_≡_}
+use mathlib.Core.Bool.{not}
 use mathlib.Core.List.{List, _++_}
 use Prim.Native.Nat.{ℕ, _≤_}
-use Rattle.combine_predictions.specs.Refusals.{orElse}
+use lib.Dec.{eqb}
+use Rattle.combine_predictions.specs.Refusals.{wrongLength, cause, orElse}
 use Rattle.combine_predictions.specs.declared.PredictionDirection.{PredictionDirection}
 use Rattle.combine_predictions.specs.declared.PredictionDirection.the-variants as PredictionDirection
 use Rattle.forming_predictions.specs.Means.{rounded}
@@ -11,7 +13,7 @@ use Rattle.inter_reconstruction.specs.Components.{ColourComponent, luma,
 use Rattle.inter_reconstruction.specs.Frames.{Samples, Reading, planeOf}
 use Rattle.inter_reconstruction.specs.Motion.{chromaMotion}
 use Rattle.inter_reconstruction.specs.Macroblock.{directionSample, usedSample, rectangle, part, macroblock}
-use Rattle.inter_reconstruction.specs.Refusals.{forwardMissing, backwardMissing, geometryRefusal, planesRefusal}
+use Rattle.inter_reconstruction.specs.Refusals.{forwardMissing, backwardMissing, cellRefusal, geometryRefusal, planesRefusal}
 use Rattle.inter_reconstruction.specs.inner.Blocks.{PlaneFits}
 use Rattle.inter_reconstruction.specs.declared.frames.FrameGeometry.{FrameGeometry}
 use Rattle.inter_reconstruction.specs.declared.frames.ReferenceFrame.the-variants.{Present}
@@ -74,3 +76,9 @@ framesRefusal dest b n q k =
     (orElse (geometryRefusal dest (Present q))
     (orElse (planesRefusal (Present b) n)
     (planesRefusal (Present q) k)))
+
+-- ---- the destination
+
+-- what is refused before the references are looked at
+abbrev pub destinationRefusal : FrameGeometry → ℕ → ℕ → ℕ → ℕ
+destinationRefusal dest out col row = orElse (cellRefusal col row) (cause (not (eqb out (macroblockBytes (dest .«chroma_format»)))) wrongLength)
