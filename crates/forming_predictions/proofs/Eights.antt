@@ -15,7 +15,7 @@ use Rattle.laws.specs.Tabulate.{tabulate}
 use Rattle.laws.proofs.Filled.{Filled, filled-none, filled-length, filled-part, filled-again, filled-all}
 use Rattle.laws.proofs.Parts.{part-length, part-at}
 use Rattle.laws.proofs.Tests.{either}
-use Rattle.forming_predictions.specs.inner.Views.{twoOf, fourOf, Eights, ColumnsFit}
+use Rattle.forming_predictions.specs.inner.Views.{fourOf, Eights, ColumnsFit}
 
 -- the first eight of a buffer, and the next eight
 pub eight : {f g : ℕ → ℕ} {d ys : List ℕ} → 8 ≤ length d → ys ≡ tabulate 8 g → ((i : ℕ) → i < 8 → g i ≡ f i) → Filled f d 8 (putMid 0 8 d ys)
@@ -43,13 +43,6 @@ overlapped {f} {g} {d} {o} {ys} h p e q =
     filled-all (rw end at last) (omega (arith, filled-length (rw end at last), filled-length h)) (filled-length h)
 
 -- m columns further
-pub two-next : (row below : List ℕ) (x dx m i : ℕ) → twoOf row below (x + m) dx i ≡ twoOf row below x dx (m + i)
-unfolding twoOf
-two-next row below x dx m i =
-    let p : x + m + i ≡ x + (m + i) = omega arith in
-    let q : x + m + dx + i ≡ x + dx + (m + i) = omega arith in
-    rw (p, q)
-
 pub four-next : (row below : List ℕ) (x dx m i : ℕ) → fourOf row below (x + m) dx i ≡ fourOf row below x dx (m + i)
 unfolding fourOf
 four-next row below x dx m i =

@@ -3,6 +3,7 @@ pub mod Splitting
 pub mod Lines
 pub mod Views
 pub mod RowMeans
+pub mod Pairs
 pub mod Blocks
 pub mod Eights
 pub mod Forming

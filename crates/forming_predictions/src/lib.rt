@@ -11,7 +11,7 @@ ghost use lib.ListN.{length, getD};
 ghost use Rattle.laws.specs.Tabulate.{tabulate};
 ghost use Rattle.laws.proofs.Bounded.{Within};
 ghost use Rattle.combine_predictions.specs.Refusals.{cause, unlessRefused};
-ghost use Rattle.combine_predictions.specs.Averaging.{averaged};
+ghost use Rattle.combine_predictions.specs.Averaging.{mean2, averaged};
 ghost use Rattle.forming_predictions.specs.declared.FieldParity.the-variants.{Bottom};
 ghost use Rattle.forming_predictions.specs.Splitting.{floorHalf, halfFlag, IsSplit, horizontalHalf, verticalHalf};
 ghost use Rattle.forming_predictions.specs.Lines.{frame, field, fieldLines, clampTo, sampleAt};
@@ -423,6 +423,37 @@ fn two_sixteen(row: &[u8], below: &[u8], x: usize, dx: usize, out: &mut [u8])
     copy_sixteen(&local, out);
 }
 
+/// The mean of four samples from the means of its two pairs and the mean of those. That one rounds twice: it is 1 too large where the mean
+/// of a pair was rounded up, and it again.
+fn avg4_of_pairs(a: u8, b: u8, c: u8, d: u8, upper: u8, lower: u8, mean: u8) -> u8
+    requires { ⌜ (upper ≡ mean2 a b) × (lower ≡ mean2 c d) × (mean ≡ mean2 upper lower) ⌝ }
+    ensures { λ r. ⌜ r ≡ mean4 a b c d ⌝ }
+{
+    mean - (((a ^ b) | (c ^ d)) & (upper ^ lower) & 1)
+}
+
+/// Sixteen of these.
+fn sixteen_of_pairs(
+    a: &[u8],
+    b: &[u8],
+    c: &[u8],
+    d: &[u8],
+    upper: &[u8],
+    lower: &[u8],
+    mean: &[u8],
+    out: &mut [u8],
+)
+    requires { ⌜ (length (now a) ≡ 16) × (length (now b) ≡ 16) × (length (now c) ≡ 16) × (length (now d) ≡ 16) × (length (now out) ≡ 16) ⌝ }
+    requires { ⌜ (now upper ≡ averaged (now a) (now b)) × (now lower ≡ averaged (now c) (now d)) × (now mean ≡ averaged (now upper) (now lower)) ⌝ }
+    ensures { λ r. ⌜ now (out .exit) ≡ tabulate (length (now (a .entry))) (λ (k : ℕ). mean4 (getD (now (a .entry)) k 0) (getD (now (b .entry)) k 0) (getD (now (c .entry)) k 0) (getD (now (d .entry)) k 0)) ⌝ }
+{
+    let mut k: usize = 0;
+    while k < 16 {
+        out[k] = avg4_of_pairs(a[k], b[k], c[k], d[k], upper[k], lower[k], mean[k]);
+        k += 1;
+    }
+}
+
 /// Eight means of four samples, likewise.
 fn four_eight(row: &[u8], below: &[u8], x: usize, dx: usize, out: &mut [u8])
     requires { ⌜ RowFits (now row) (now below) x dx 8 × (length (now out) ≡ 8) ⌝ }
@@ -442,41 +473,69 @@ fn four_eight(row: &[u8], below: &[u8], x: usize, dx: usize, out: &mut [u8])
     copy_eight(&local, out);
 }
 
-/// A row of 8 or 16, of two samples each, which are one where `dx` is 0 and the rows are the same.
-fn two_row(row: &[u8], below: &[u8], x: usize, dx: usize, out: &mut [u8])
-    requires { ⌜ RowFits (now row) (now below) x dx (length (now out)) × Eights (length (now out)) ⌝ }
-    ensures { λ r. ⌜ now (out .exit) ≡ tabulate (length (now (out .entry))) (twoOf (now (row .entry)) (now (below .entry)) x dx) ⌝ }
+/// Sixteen means of four samples. A mean of two is one instruction for all sixteen, and these are formed of such means.
+fn four_sixteen(row: &[u8], below: &[u8], x: usize, dx: usize, out: &mut [u8])
+    requires { ⌜ RowFits (now row) (now below) x dx 16 × (length (now out) ≡ 16) ⌝ }
+    ensures { λ r. ⌜ now (out .exit) ≡ tabulate 16 (fourOf (now (row .entry)) (now (below .entry)) x dx) ⌝ }
 {
-    two_eight(row, below, x, dx, &mut out[0..8]);
-    if out.len() == 8 {
-        return;
-    }
-    two_eight(row, below, x + 8, dx, &mut out[8..16]);
+    let right = x + dx;
+    let e = x + 16;
+    let f = right + 16;
+    let mut upper = [0u8; 16];
+    let mut lower = [0u8; 16];
+    let mut mean = [0u8; 16];
+    let mut local = [0u8; 16];
+    mean2_samples(&row[x..e], &row[right..f], &mut upper);
+    mean2_samples(&below[x..e], &below[right..f], &mut lower);
+    mean2_samples(&upper, &lower, &mut mean);
+    sixteen_of_pairs(
+        &row[x..e],
+        &row[right..f],
+        &below[x..e],
+        &below[right..f],
+        &upper,
+        &lower,
+        &mean,
+        &mut local,
+    );
+    copy_sixteen(&local, out);
 }
 
-/// A row of 8 or 16, of four samples each.
-fn four_row(row: &[u8], below: &[u8], x: usize, dx: usize, out: &mut [u8])
-    requires { ⌜ RowFits (now row) (now below) x dx (length (now out)) × Eights (length (now out)) ⌝ }
-    ensures { λ r. ⌜ now (out .exit) ≡ tabulate (length (now (out .entry))) (fourOf (now (row .entry)) (now (below .entry)) x dx) ⌝ }
+/// Eight predicted samples out of two rows of the plane, which are one where `dy` is 0. Unless both steps are 1, two samples are enough.
+fn eight_row(row: &[u8], below: &[u8], x: usize, dx: usize, dy: usize, out: &mut [u8])
+    requires { ⌜ RowFits (now row) (now below) x dx 8 × (dx ≤ 1) × (dy ≤ 1) × (dy ≡ 0 → now below ≡ now row) × (length (now out) ≡ 8) ⌝ }
+    ensures { λ r. ⌜ now (out .exit) ≡ tabulate 8 (fourOf (now (row .entry)) (now (below .entry)) x dx) ⌝ }
 {
-    four_eight(row, below, x, dx, &mut out[0..8]);
-    if out.len() == 8 {
+    if dx + dy == 2 {
+        four_eight(row, below, x, dx, out);
         return;
     }
-    four_eight(row, below, x + 8, dx, &mut out[8..16]);
+    two_eight(row, below, x, dx, out);
 }
 
-/// A row of predicted samples out of two rows of the plane, which are one where `dy` is 0. Unless both steps are 1, two samples are
-/// enough.
+/// Sixteen, likewise.
+fn sixteen_row(row: &[u8], below: &[u8], x: usize, dx: usize, dy: usize, out: &mut [u8])
+    requires { ⌜ RowFits (now row) (now below) x dx 16 × (dx ≤ 1) × (dy ≤ 1) × (dy ≡ 0 → now below ≡ now row) × (length (now out) ≡ 16) ⌝ }
+    ensures { λ r. ⌜ now (out .exit) ≡ tabulate 16 (fourOf (now (row .entry)) (now (below .entry)) x dx) ⌝ }
+{
+    if dx + dy == 2 {
+        four_sixteen(row, below, x, dx, out);
+        return;
+    }
+    two_sixteen(row, below, x, dx, out);
+}
+
+/// A row of 8 or 16 predicted samples. The width is asked for first: where the pattern is, the compiler joins what the widths have in common
+/// and takes it apart sample by sample.
 fn form_row(row: &[u8], below: &[u8], x: usize, dx: usize, dy: usize, out: &mut [u8])
     requires { ⌜ RowFits (now row) (now below) x dx (length (now out)) × (dx ≤ 1) × (dy ≤ 1) × (dy ≡ 0 → now below ≡ now row) × Eights (length (now out)) ⌝ }
     ensures { λ r. ⌜ now (out .exit) ≡ tabulate (length (now (out .entry))) (fourOf (now (row .entry)) (now (below .entry)) x dx) ⌝ }
 {
-    if dx + dy == 2 {
-        four_row(row, below, x, dx, out);
+    if out.len() == 16 {
+        sixteen_row(row, below, x, dx, dy, out);
         return;
     }
-    two_row(row, below, x, dx, out);
+    eight_row(row, below, x, dx, dy, out);
 }
 
 /// A row of a block from line y on: the plane's rows are handed on as parts of its bytes.
@@ -545,67 +604,6 @@ fn form_square(
     two_square(samples, start, dx + dy * stride, stride, out);
 }
 
-/// A row of sixteen of a block from line y on, unless both steps are 1: the plane's rows are handed on as parts of its bytes.
-fn wide_line(
-    samples: &[u8],
-    width: usize,
-    first: usize,
-    step: usize,
-    count: usize,
-    x: usize,
-    y: usize,
-    dx: usize,
-    dy: usize,
-    out: &mut [u8],
-)
-    requires { ⌜ ViewFits (now samples) width first step count × Inside width count x y dx dy 16 1 × (dx + dy ≤ 1) × (length (now out) ≡ 16) ⌝ }
-    ensures { λ r. ⌜ now (out .exit) ≡ tabulate 16 (lineCell (now (samples .entry)) width first step count (pos x) (pos y) dx dy) ⌝ }
-{
-    let a = line_start(first, step, width, y);
-    let b = line_start(first, step, width, y + dy);
-    let e = a + width;
-    let f = b + width;
-    two_sixteen(&samples[a..e], &samples[b..f], x, dx, out);
-}
-
-/// A block of 16 columns whose reads all lie inside, unless both steps are 1. It has a loop of its own: in one with rows of 8, the compiler
-/// forms both by eights.
-fn form_wide(
-    samples: &[u8],
-    width: usize,
-    first: usize,
-    step: usize,
-    count: usize,
-    x: usize,
-    y: usize,
-    dx: usize,
-    dy: usize,
-    height: usize,
-    out: &mut [u8],
-)
-    requires { ⌜ ViewFits (now samples) width first step count × BlockFits dx dy 16 height (now out) × Inside width count x y dx dy 16 height × (dx + dy ≤ 1) ⌝ }
-    ensures { λ r. ⌜ now (out .exit) ≡ viewBlock (now (samples .entry)) width first step count (pos x) (pos y) dx dy 16 height ⌝ }
-{
-    let mut r: usize = 0;
-    while r < height {
-        let o = r * 16;
-        let e = o + 16;
-        wide_line(
-            samples,
-            width,
-            first,
-            step,
-            count,
-            x,
-            y + r,
-            dx,
-            dy,
-            &mut out[o..e],
-        );
-        r += 1;
-    }
-}
-
 /// A block of 8 or 16 columns whose reads all lie inside: nothing is clamped.
 fn form_inside(
     samples: &[u8],
@@ -624,27 +622,9 @@ fn form_inside(
     requires { ⌜ ViewFits (now samples) width first step count × BlockFits dx dy «block_width» «block_height» (now out) × Inside width count x y dx dy «block_width» «block_height» × Eights «block_width» ⌝ }
     ensures { λ r. ⌜ now (out .exit) ≡ viewBlock (now (samples .entry)) width first step count (pos x) (pos y) dx dy «block_width» «block_height» ⌝ }
 {
-    if dx + dy <= 1 {
-        if block_width == 16 {
-            form_wide(
-                samples,
-                width,
-                first,
-                step,
-                count,
-                x,
-                y,
-                dx,
-                dy,
-                block_height,
-                out,
-            );
-            return;
-        }
-        if (block_width == 8) & (block_height == 8) {
-            form_square(samples, width, first, step, count, x, y, dx, dy, out);
-            return;
-        }
+    if ((block_width == 8) & (block_height == 8)) & (dx + dy <= 1) {
+        form_square(samples, width, first, step, count, x, y, dx, dy, out);
+        return;
     }
     let mut r: usize = 0;
     while r < block_height {

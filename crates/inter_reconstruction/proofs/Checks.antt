@@ -120,7 +120,7 @@ module _ (dest : FrameGeometry) (n col row : ℕ) where
         → r ≡ referencesRefusal dest f k b l u
         → o ≡ unlessRefused r (predicted rounded (dest .«chroma_format») forward backward u col row) old
         → (answer ≡ predictionAnswer (predictionRefusal dest n f k b l uses col row))
-            × (o ≡ unlessRefused (predictionNumber answer) (predicted rounded (dest .«chroma_format») forward backward uses col row) old)
+        × (o ≡ unlessRefused (predictionNumber answer) (predicted rounded (dest .«chroma_format») forward backward uses col row) old)
     answered forward backward uses u r answer o old d e a q w =
         rw e (a ∙ ap predictionAnswer (q ∙ sym (last-of (cellRefusal col row) (cause (not bytes-right) wrongLength) (referencesRefusal dest f k b l u) d)), by-answer answer r o _ old a w)
 

@@ -1,12 +1,13 @@
 -- `form_inside` meets its contract: after r turns the first r rows are in place.
 -- Assumes nothing.
 use mathlib.Core.Path.{_≡_}
+use mathlib.Core.Bool.{_&&_}
 use Prim.Native.Nat.{ℕ, _+_, _-_, _*_, _/_, _%_, _≤_}
 use native.Mathlib.Omega.{arith}
 use lib.IntN.{ℤ, pos, _+ℤ_}
-use lib.Dec.{eqb}
+use lib.Dec.{eqb, leb}
 use lib.ListN.{length}
-use borrow.Author.Tests.{eqb-true}
+use borrow.Author.Tests.{eqb-true, leb-true}
 use Rattle.laws.proofs.Rows.{RowsFilled, rows-none, rows-room, rows-part, rows-step, rows-all}
 use Rattle.laws.proofs.Tests.{both}
 use Rattle.forming_predictions.specs.Forming.{blockOf}
@@ -31,45 +32,31 @@ room : (c : tie.In-loop Inv-loop μ-loop)
     → c .before .loop .r * start (c .before) .args .block-width + start (c .before) .args .block-width ≤ length (c .before .loop .out)
 room c = rows-room (c .before .loop .inv) (omega (arith, c .loop-test .taken))
 
--- what the tests of a wide block say
-wide : (c : tie.Then2 Inv-loop μ-loop)
-    → (let a = c .before .before .before .before .args in (a .dx + a .dy ≤ 1) × (a .block-width ≡ 16))
-wide c = (c .before .if1 .taken, c .if2 .taken)
-
-form-wide-requires : tie.Need-form-wide-requires Inv-loop μ-loop
-form-wide-requires c κs =
-    let t = c .before in
-    let s = t .before .before .before .before in
-    let q = wide t in
-    (s .pre .0, rw (q .1) at (s .pre .1), rw (q .1) at (s .pre .2), q .0)
-
-returns : tie.Need-returns Inv-loop μ-loop
-returns c = let f = c .before .before in rw (wide (f .before .before) .1) (f .form-wide .ensures)
-
--- what the tests of a square block say
-square : (c : tie.Then3 Inv-loop μ-loop)
-    → (let a = c .before .before .before .before .before .args in (a .dx + a .dy ≤ 1) × (a .block-width ≡ 8) × (a .block-height ≡ 8))
+-- what the test of a square block says
+square : (c : tie.Then1 Inv-loop μ-loop)
+    → (let a = c .before .before .before .args in (a .block-width ≡ 8) × (a .block-height ≡ 8) × (a .dx + a .dy ≤ 1))
 square c =
-    let a = c .before .before .before .before .before .args in
-    let u = both (eqb (a .block-width) 8) (eqb (a .block-height) 8) (c .if3 .taken) in
-    (c .before .before .if1 .taken, eqb-true (a .block-width) 8 (u .0), eqb-true (a .block-height) 8 (u .1))
+    let a = c .before .before .before .args in
+    let t = both (eqb (a .block-width) 8 && eqb (a .block-height) 8) (leb (a .dx + a .dy) 1) (c .if1 .taken) in
+    let u = both (eqb (a .block-width) 8) (eqb (a .block-height) 8) (t .0) in
+    (eqb-true (a .block-width) 8 (u .0), eqb-true (a .block-height) 8 (u .1), leb-true (a .dx + a .dy) 1 (t .1))
 
 form-square-requires : tie.Need-form-square-requires Inv-loop μ-loop
 form-square-requires c κs =
     let t = c .before in
-    let s = t .before .before .before .before .before in
+    let s = t .before .before .before in
     let q = square t in (
       s .pre .0,
-      record { right = omega (arith, s .pre .2 .right, q .1); below = omega (arith, s .pre .2 .below, q .2) },
-      q .0,
-      rw (q .1, q .2) at (s .pre .1 .count),
+      record { right = omega (arith, s .pre .2 .right, q .0); below = omega (arith, s .pre .2 .below, q .1) },
+      q .2,
+      rw (q .0, q .1) at (s .pre .1 .count),
     )
 
-returns-2 : tie.Need-returns-2 Inv-loop μ-loop
-returns-2 c =
+returns : tie.Need-returns Inv-loop μ-loop
+returns c =
     let f = c .before .before in
     let q = square (f .before .before) in
-    rw (q .1, q .2) (f .form-square .ensures)
+    rw (q .0, q .1) (f .form-square .ensures)
 
 loop-holds : tie.Need-loop-holds Inv-loop μ-loop
 loop-holds c = rows-none _ _ _ _ (c .before .before .before .pre .1 .count)
@@ -99,9 +86,9 @@ loop-again c =
     rows-step (l .loop .inv) (omega (arith, i .loop-test .taken)) (f .form-line .ensures)
     (λ k h. row-of-block (λ (x y : ℤ). spread (viewRead (a .samples .now) (a .width) (a .first) (a .step) (a .count)) x y (a .dx) (a .dy)) (pos (a .x)) (pos (a .y)) (a .block-width) (l .loop .r) k h)
 
-returns-3 : tie.Need-returns-3 Inv-loop μ-loop
+returns-2 : tie.Need-returns-2 Inv-loop μ-loop
 unfolding blockOf
-returns-3 c = rows-all (c .before .loop .inv) (omega (arith, c .loop-test .left))
+returns-2 c = rows-all (c .before .loop .inv) (omega (arith, c .loop-test .left))
 
 pub form-inside-spec : {M : Type 1} → statement M
 form-inside-spec =
@@ -110,12 +97,9 @@ form-inside-spec =
     Inv-loop
     μ-loop
     (λ c. search needs)
-    form-wide-requires
-    (λ c. search needs)
-    returns
     form-square-requires
     (λ c. search needs)
-    returns-2
+    returns
     loop-holds
     (λ c. search needs)
     (λ c. search needs)
@@ -128,4 +112,4 @@ form-inside-spec =
     (λ c. search needs)
     loop-again
     (λ c. search needs)
-    returns-3)
+    returns-2)
