@@ -12,7 +12,9 @@
 # make bench           measure the port beside the Rust original, plain C, and the half-sample functions of libavcodec and
 #                      libmpeg2 where Debian's libavcodec-dev and libmpeg2-4-dev are installed, and print tables, with the
 #                      marks; ARGS='--quick macroblocks' for fewer repetitions, or for some of the tables alone
-# The last three need cargo and the Rust original. FOZDRIK_RUST is the folder that holds its LICENSE and src/, by default
+# make bench-counts    count the instructions of fixed calls under valgrind, and print how they have changed from those that
+#                      are kept; ACCEPT=1 keeps the new ones
+# The three before that need cargo and the Rust original. FOZDRIK_RUST is the folder that holds its LICENSE and src/, by default
 # ../shared/docs/src; a relative path starts here.
 
 RT ?= rt
@@ -30,7 +32,7 @@ sources = crates.txt $(shell find $(addprefix crates/,$(1)) -name '*.rt' -o -nam
 # two commands of rt in one folder would be in each other's way
 .NOTPARALLEL:
 
-.PHONY: all declarations example-check picture demonstration plot test differential lists-check compare lists bench clean
+.PHONY: all declarations example-check picture demonstration plot test differential lists-check compare lists bench bench-counts clean
 
 all: $(LIBRARY)
 	@mkdir -p build
@@ -138,6 +140,23 @@ $(BENCH)/libcontestants.a: $(wildcard differential/c/*.[ch]) include/fozdrik.h
 		$(CC) -std=c99 $(C_FLAGS:-O2=-O3) -c differential/c/$$name.c -o $(BENCH)/$$name.o || exit 1; \
 		$(AR) rcs $@ $(BENCH)/$$name.o || exit 1; \
 	done
+
+COUNTS = build/counts
+KEPT_COUNTS = differential/counts/counts.txt
+COUNTED = $(BENCH)/libfozdrik.a $(BENCH)/libbench_blocks.a
+
+bench-counts: $(COUNTED)
+	@command -v valgrind >/dev/null || { echo "valgrind is not installed, and nothing is counted"; exit 1; }
+	@mkdir -p $(COUNTS)
+	@rm -f $(COUNTS)/profile
+	@$(CC) -std=c99 $(C_FLAGS) differential/counts/calls.c differential/counts/memory.s $(COUNTED) -o $(COUNTS)/calls
+	@valgrind -q --tool=callgrind --toggle-collect='fozdrik_*' --dump-before=next_kind --combine-dumps=yes \
+		--compress-strings=no --compress-pos=no --callgrind-out-file=$(COUNTS)/profile $(COUNTS)/calls >$(COUNTS)/kinds.txt
+	@awk -f differential/counts/per_call.awk $(COUNTS)/kinds.txt $(COUNTS)/profile >$(COUNTS)/counts.txt
+	@awk -v accept=$(ACCEPT) -f differential/counts/change.awk $(KEPT_COUNTS) $(COUNTS)/counts.txt
+ifdef ACCEPT
+	@cp $(COUNTS)/counts.txt $(KEPT_COUNTS) && echo "the new counts are kept in $(KEPT_COUNTS)"
+endif
 
 clean:
 	rm -rf build target
