@@ -14,8 +14,8 @@
 #                      marks; ARGS='--quick macroblocks' for fewer repetitions, or for some of the tables alone
 # make bench-counts    count the instructions of fixed calls under valgrind, and print how they have changed from those that
 #                      are kept; ACCEPT=1 keeps the new ones
-# The three before that need cargo and the Rust original. FOZDRIK_RUST is the folder that holds its LICENSE and src/, by default
-# ../shared/docs/src; a relative path starts here.
+# differential, lists and bench need cargo and the Rust original. FOZDRIK_RUST is the folder that holds its LICENSE and
+# src/, by default ../shared/docs/src; a relative path starts here.
 
 RT ?= rt
 CARGO ?= cargo

@@ -57,8 +57,8 @@ impl Blocks {
                 .chain(self.libraries.iter().map(|library| library.who))
                 .collect(),
             repetitions: match effort {
-                Effort::Full => 3001,
-                Effort::Quick => 201,
+                Effort::Full => 801,
+                Effort::Quick => 101,
             },
             calls: CALLS,
             decimals: 1,
@@ -70,9 +70,10 @@ impl Blocks {
                  original returns a new vector, and to allocate and free it is part of its call, \
                  which the last row shows alone; Fozdrik and C write to a lent buffer, packed. \
                  Fozdrik's entry point is the benchmark's own, and checks sides, position and \
-                 lengths; C checks none of these. The libraries' functions write to lines that are \
-                 as far apart as the plane's, here always the same ones; they check nothing, and \
-                 are not for reads outside the plane or for other widths than 16 and 8."
+                 lengths; C checks where it reads and no more. The libraries' functions write to \
+                 lines that are as far apart as the plane's, here always the same ones; they check \
+                 nothing, and are not for reads outside the plane or for other widths than 16 and \
+                 8."
             ),
         );
         let mut marks = Marks::default();

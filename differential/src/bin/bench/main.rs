@@ -122,7 +122,10 @@ fn run(request: Request) -> Result<(), String> {
     );
     for who in c::absent() {
         println!();
-        println!("{} is not installed, and left out.", who.name());
+        println!(
+            "{} is left out: it was not found when this program was built.",
+            who.name()
+        );
     }
     for table in tables {
         table(request.effort);

@@ -10,8 +10,9 @@ use crate::marks::Mark;
 pub const WIDTH: usize = 720;
 pub const HEIGHT: usize = 576;
 
-/// So many that the branches of one block are not learnt.
-pub const CALLS: usize = 256;
+/// So many that the branches of one block are not learnt, and that to read the clock and to start
+/// takes little beside the fastest.
+pub const CALLS: usize = 1024;
 
 /// How far the whole part of a vector goes.
 const REACH: i32 = 64;
