@@ -141,7 +141,7 @@ fn link_measured() -> Result<(), Box<dyn Error>> {
         }
     }
     println!("cargo::rustc-link-arg-bin=bench=-lm");
-    // libavcodec's objects do not depend on where they are loaded only in its shared library.
+    // The objects in libavcodec's archive are not position independent.
     println!("cargo::rustc-link-arg-bin=bench=-no-pie");
     Ok(())
 }
