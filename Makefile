@@ -9,9 +9,13 @@
 # make differential    build the Rust original, see that the lists in the repository are its answers, and compare the
 #                      library with it, call by call through C, by the million; SEED=N and COUNT=N draw other cases or more
 # make lists           make those lists anew
-# make bench           measure the port beside the Rust original, and print tables
-# The last three need cargo and the Rust original. FOZDRIK_RUST is the folder that holds its LICENSE and src/, by default
-# ../shared/docs/src; a relative path starts here.
+# make bench           measure the port beside the Rust original, plain C, and the half-sample functions of libavcodec and
+#                      libmpeg2 where Debian's libavcodec-dev and libmpeg2-4-dev are installed, and print tables, with the
+#                      marks; ARGS='--quick macroblocks' for fewer repetitions, or for some of the tables alone
+# make bench-counts    count the instructions of fixed calls under valgrind, and print how they have changed from those that
+#                      are kept; ACCEPT=1 keeps the new ones
+# differential, lists and bench need cargo and the Rust original. FOZDRIK_RUST is the folder that holds its LICENSE and
+# src/, by default ../shared/docs/src; a relative path starts here.
 
 RT ?= rt
 CARGO ?= cargo
@@ -22,11 +26,13 @@ EXAMPLES = example moving_picture
 PICTURE = build/plate.pgm
 C_FLAGS = -O2 -Wall -Wextra -Wpedantic -Werror -Iinclude
 
-# what the library is made of, since rt staticlib proves its last crate anew each time it is asked
-LAYERS = laws combine_predictions forming_predictions pmv inter_reconstruction fozdrik
-SOURCES := crates.txt $(shell find $(LAYERS:%=crates/%) -name '*.rt' -o -name '*.antt')
+# what a library is made of, by its crates, since rt staticlib proves its last crate anew each time it is asked
+sources = crates.txt $(shell find $(addprefix crates/,$(1)) -name '*.rt' -o -name '*.antt')
 
-.PHONY: all declarations example-check picture demonstration plot test differential lists-check compare lists bench clean
+# two commands of rt in one folder would be in each other's way
+.NOTPARALLEL:
+
+.PHONY: all declarations example-check picture demonstration plot test differential lists-check compare lists bench bench-counts clean
 
 all: $(LIBRARY)
 	@mkdir -p build
@@ -39,7 +45,7 @@ all: $(LIBRARY)
 	done
 	@echo "the picture is $(PICTURE)"
 
-$(LIBRARY): $(SOURCES)
+$(LIBRARY): $(call sources,laws combine_predictions forming_predictions pmv inter_reconstruction fozdrik)
 	@mkdir -p build
 	@echo "proving and building $(LIBRARY), which takes some minutes"
 	@$(RT) staticlib fozdrik >build/library.log 2>&1 || { tail -n 40 build/library.log; exit 1; }
@@ -101,14 +107,56 @@ compare: $(LIBRARY)
 lists:
 	cd differential && $(CARGO) run --release --offline --bin lists
 
-bench: $(LIBRARY)
-	@mkdir -p build/bench
-	@cp $(LIBRARY) build/bench/
-	@for library in bench_blocks bench_pmv; do \
-		$(RT) staticlib $$library >build/bench.log 2>&1 || { tail -n 40 build/bench.log; exit 1; }; \
-		cp target/staticlib/lib$$library.a build/bench/ || exit 1; \
+# what the benchmark is linked with: libraries of the port, and the contestants in C
+BENCH = build/bench
+BENCH_LIBRARIES = $(addprefix $(BENCH)/,libfozdrik.a libbench_blocks.a libbench_pmv.a libcontestants.a)
+CONTESTANTS = plain avcodec mpeg2
+
+# an archive's path where the compiler finds it, and else nothing; empty ones leave the library out of the tables
+archive = $(filter /%,$(shell $(CC) -print-file-name=$(1)))
+LIBAVCODEC = $(if $(and $(call archive,libavcodec.a),$(call archive,libavutil.a)),$(call archive,libavcodec.a):$(call archive,libavutil.a))
+LIBMPEG2 = $(call archive,libmpeg2.a)
+
+bench: $(BENCH_LIBRARIES)
+	cd differential && FOZDRIK_LIBAVCODEC=$(LIBAVCODEC) FOZDRIK_LIBMPEG2=$(LIBMPEG2) \
+		$(CARGO) run --release --offline --features bench --bin bench -- $(ARGS)
+
+$(BENCH)/libfozdrik.a: $(LIBRARY)
+	@mkdir -p $(BENCH)
+	@cp $(LIBRARY) $@
+
+$(BENCH)/libbench_blocks.a: $(call sources,laws combine_predictions forming_predictions bench_blocks)
+$(BENCH)/libbench_pmv.a: $(call sources,laws combine_predictions forming_predictions pmv bench_pmv)
+$(BENCH)/libbench_%.a:
+	@mkdir -p $(BENCH)
+	@echo "proving and building $@"
+	@$(RT) staticlib bench_$* >build/bench.log 2>&1 || { tail -n 40 build/bench.log; exit 1; }
+	@cp target/staticlib/libbench_$*.a $@
+
+$(BENCH)/libcontestants.a: $(wildcard differential/c/*.[ch]) include/fozdrik.h
+	@mkdir -p $(BENCH)
+	@rm -f $@
+	@for name in $(CONTESTANTS); do \
+		$(CC) -std=c99 $(C_FLAGS:-O2=-O3) -c differential/c/$$name.c -o $(BENCH)/$$name.o || exit 1; \
+		$(AR) rcs $@ $(BENCH)/$$name.o || exit 1; \
 	done
-	cd differential && $(CARGO) run --release --offline --features bench --bin bench
+
+COUNTS = build/counts
+KEPT_COUNTS = differential/counts/counts.txt
+COUNTED = $(BENCH)/libfozdrik.a $(BENCH)/libbench_blocks.a
+
+bench-counts: $(COUNTED)
+	@command -v valgrind >/dev/null || { echo "valgrind is not installed, and nothing is counted"; exit 1; }
+	@mkdir -p $(COUNTS)
+	@rm -f $(COUNTS)/profile
+	@$(CC) -std=c99 $(C_FLAGS) differential/counts/calls.c differential/counts/memory.s $(COUNTED) -o $(COUNTS)/calls
+	@valgrind -q --tool=callgrind --toggle-collect='fozdrik_*' --dump-before=next_kind --combine-dumps=yes \
+		--compress-strings=no --compress-pos=no --callgrind-out-file=$(COUNTS)/profile $(COUNTS)/calls >$(COUNTS)/kinds.txt
+	@awk -f differential/counts/per_call.awk $(COUNTS)/kinds.txt $(COUNTS)/profile >$(COUNTS)/counts.txt
+	@awk -v accept=$(ACCEPT) -f differential/counts/change.awk $(KEPT_COUNTS) $(COUNTS)/counts.txt
+ifdef ACCEPT
+	@cp $(COUNTS)/counts.txt $(KEPT_COUNTS) && echo "the new counts are kept in $(KEPT_COUNTS)"
+endif
 
 clean:
 	rm -rf build target

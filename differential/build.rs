@@ -1,6 +1,7 @@
 //! Writes `oracle.rs`, the declarations that make the ten files of the original
 //! modules of the library. They are compiled where they lie: neither copied nor edited.
-//! With the feature `bench` or `compare`, hands the port's libraries to the linker.
+//! With the feature `bench` or `compare`, hands the port's libraries to the linker, and with the
+//! former those of others too.
 
 use std::env;
 use std::error::Error;
@@ -32,13 +33,37 @@ const LINKED: [Linked; 2] = [
         binary: "bench",
         feature: "CARGO_FEATURE_BENCH",
         default: "build/bench",
-        files: &["libbench_blocks.a", "libbench_pmv.a", "libfozdrik.a"],
+        files: &[
+            "libbench_blocks.a",
+            "libbench_pmv.a",
+            "libcontestants.a",
+            "libfozdrik.a",
+        ],
     },
     Linked {
         binary: "compare",
         feature: "CARGO_FEATURE_COMPARE",
         default: "target/staticlib",
         files: &["libfozdrik.a"],
+    },
+];
+
+/// A library of others that `bench` measures where it is installed.
+struct Measured {
+    /// Names its archives, in the order in which they are linked; empty where they are not there.
+    variable: &'static str,
+    /// How the code is told that it is there.
+    configuration: &'static str,
+}
+
+const MEASURED: [Measured; 2] = [
+    Measured {
+        variable: "FOZDRIK_LIBAVCODEC",
+        configuration: "avcodec",
+    },
+    Measured {
+        variable: "FOZDRIK_LIBMPEG2",
+        configuration: "mpeg2",
     },
 ];
 
@@ -90,6 +115,34 @@ fn link_libraries() -> Result<(), Box<dyn Error>> {
             link(&linked)?;
         }
     }
+    for Measured { configuration, .. } in MEASURED {
+        println!("cargo::rustc-check-cfg=cfg({configuration})");
+    }
+    if env::var_os("CARGO_FEATURE_BENCH").is_some() {
+        link_measured()?;
+    }
+    Ok(())
+}
+
+fn link_measured() -> Result<(), Box<dyn Error>> {
+    for Measured {
+        variable,
+        configuration,
+    } in MEASURED
+    {
+        println!("cargo::rerun-if-env-changed={variable}");
+        let archives = env::var_os(variable).unwrap_or_default();
+        if archives.is_empty() {
+            continue;
+        }
+        println!("cargo::rustc-cfg={configuration}");
+        for archive in env::split_paths(&archives) {
+            println!("cargo::rustc-link-arg-bin=bench={}", there(&archive)?);
+        }
+    }
+    println!("cargo::rustc-link-arg-bin=bench=-lm");
+    // The objects in libavcodec's archive are not position independent.
+    println!("cargo::rustc-link-arg-bin=bench=-no-pie");
     Ok(())
 }
 

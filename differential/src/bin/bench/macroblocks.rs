@@ -1,6 +1,7 @@
 //! The table of macroblocks: prediction from whole pictures, by the vectors of a macroblock.
 
 mod calls;
+mod decoded;
 mod rows;
 
 use std::hint::black_box;
@@ -10,8 +11,12 @@ use oracle::frame_assembly::{FrameBuffer, Plane};
 use oracle::rng::Rng;
 use oracle::sequence_extension::ChromaFormat;
 
-use crate::table::{Effort, Table};
-use calls::{Call, Numbers, Pictures, original, port};
+use crate::agreement::{same_bytes, unlike};
+use crate::c::{self, Library, Macroblock, bench_plain_macroblock};
+use crate::marks::Marks;
+use crate::table::{Batch, Effort, Table, Who};
+use calls::{Call, Pictures, original, port};
+use decoded::Decoded;
 use rows::{CALLS, HEIGHT, Row, WIDTH, rows};
 
 const SEED: u64 = 767;
@@ -47,14 +52,29 @@ impl Format {
             backward: &self.backward,
         }
     }
+
+    /// The same for C. The decoded picture is the libraries' alone.
+    fn c_pictures(&self, decoded: &mut Decoded) -> c::Pictures<'_> {
+        c::Pictures {
+            format: self.dest.chroma_format as u32,
+            references: [&self.forward, &self.backward]
+                .map(|picture| [&picture.y, &picture.cb, &picture.cr].map(c_plane)),
+            decoded: decoded.planes(),
+        }
+    }
+}
+
+fn c_plane(plane: &Plane) -> c::Plane<'_> {
+    c::Plane::new(plane.samples(), plane.width(), plane.height())
 }
 
 pub struct Macroblocks {
     formats: Vec<Format>,
+    libraries: Vec<Library>,
 }
 
 impl Macroblocks {
-    /// Draws the pictures and the calls, and sees that both sides give the same bytes.
+    /// Draws the pictures and the calls, and sees that all contestants give the same bytes.
     pub fn prepare() -> Result<Self, String> {
         let mut rng = Rng::new(SEED);
         let formats: Vec<_> = [
@@ -65,16 +85,26 @@ impl Macroblocks {
         .into_iter()
         .map(|(name, format, length)| Format::draw(&mut rng, name, format, length))
         .collect();
-        for format in &formats {
+        let macroblocks = Self {
+            formats,
+            libraries: c::libraries(),
+        };
+        for format in &macroblocks.formats {
             for row in &format.rows {
-                compare(format, row).map_err(|cause| format!("{}: {cause}", row.what))?;
+                macroblocks
+                    .compare(format, row)
+                    .map_err(|cause| format!("{}: {cause}", row.what))?;
             }
         }
-        Ok(Self { formats })
+        Ok(macroblocks)
     }
 
     pub fn print(&self, effort: Effort) {
         let table = Table {
+            contestants: [Who::Rust, Who::Fozdrik, Who::C]
+                .into_iter()
+                .chain(self.libraries.iter().map(|library| library.who))
+                .collect(),
             repetitions: match effort {
                 Effort::Full => 201,
                 Effort::Quick => 41,
@@ -90,35 +120,145 @@ impl Macroblocks {
                  calls. Inside, all that is read of all components lies inside; at the edges, \
                  every block of a macroblock reaches past the same one or two edges. The original \
                  is called as Rust calls Rust, and returns three new vectors, which to allocate \
-                 and free is part of its call, as are those that it makes on the way; Fozdrik is \
-                 called through C, with some fifty numbers, and writes to a lent buffer.",
+                 and free is part of its call, as are those that it makes on the way. Fozdrik is \
+                 called through its C entry points, with some fifty numbers, checks them all, and \
+                 writes to a lent buffer, packed; C is handed structs, checks where it reads and \
+                 no more, and writes to the same. The libraries' functions are called by those \
+                 structs too, and write each macroblock at its place in a picture, as a decoder \
+                 does; they check nothing, and are not for reads outside.",
             ),
         );
+        let mut marks = Marks::default();
         for format in &self.formats {
             for row in &format.rows {
-                print_row(&table, format, row);
+                self.print_row(&table, format, row, &mut marks);
             }
         }
+        marks.print();
     }
-}
 
-fn print_row(table: &Table, format: &Format, row: &Row) {
-    let pictures = format.pictures();
-    let mut out = [0; LARGEST_MACROBLOCK];
-    let out = &mut out[..format.length];
-    let mut rust = || {
-        for call in &row.calls {
-            // To free what it returns is part of the call.
-            let _ = black_box(original(black_box(pictures), black_box(call)));
+    fn print_row(&self, table: &Table, format: &Format, row: &Row, marks: &mut Marks) {
+        let pictures = format.pictures();
+        let mut rust = || {
+            for call in &row.calls {
+                // To free what it returns is part of the call.
+                let _ = black_box(original(black_box(pictures), black_box(call)));
+            }
+        };
+        let mut fozdrik_out = [0; LARGEST_MACROBLOCK];
+        let fozdrik_out = &mut fozdrik_out[..format.length];
+        let mut fozdrik = || {
+            for numbers in &row.numbers {
+                black_box(port(black_box(pictures), black_box(numbers), fozdrik_out));
+                black_box(&mut *fozdrik_out);
+            }
+        };
+        let mut decoded = Decoded::like(&format.dest);
+        let c_pictures = format.c_pictures(&mut decoded);
+        let mut c_out = [0; LARGEST_MACROBLOCK];
+        let mut c = || {
+            for numbers in &row.numbers {
+                // SAFETY: no macroblock is larger than the room.
+                unsafe {
+                    bench_plain_macroblock(
+                        black_box(&c_pictures),
+                        black_box(numbers),
+                        c_out.as_mut_ptr(),
+                    );
+                }
+                black_box(&mut c_out);
+            }
+        };
+        let mut of_libraries: Vec<_> = self
+            .libraries_for(row)
+            .map(|library| {
+                let batch = move || {
+                    for numbers in &row.numbers {
+                        // SAFETY: the row is inside, and the decoded picture has its sides.
+                        unsafe {
+                            (library.macroblock)(black_box(&c_pictures), black_box(numbers));
+                        }
+                    }
+                    library.done();
+                };
+                (library.who, batch)
+            })
+            .collect();
+
+        let mut batches: Vec<(Who, Batch<'_>)> = vec![
+            (Who::Rust, &mut rust),
+            (Who::Fozdrik, &mut fozdrik),
+            (Who::C, &mut c),
+        ];
+        for (who, batch) in &mut of_libraries {
+            batches.push((*who, batch));
         }
-    };
-    let mut fozdrik = || {
-        for numbers in &row.numbers {
-            black_box(port(black_box(pictures), black_box(numbers), out));
-            black_box(&mut *out);
+        let times = table.print_row(&row.what, &mut batches);
+        if let Some(mark) = row.mark {
+            marks.see(&row.what, mark, &times);
         }
-    };
-    table.print_row(&row.what, &mut rust, &mut fozdrik);
+    }
+
+    fn libraries_for(&self, row: &Row) -> impl Iterator<Item = Library> {
+        let libraries = self.libraries.iter().copied();
+        libraries.filter(|_| row.inside)
+    }
+
+    /// Sees that all give the same bytes for every call of the row.
+    fn compare(&self, format: &Format, row: &Row) -> Result<(), String> {
+        let mut decoded = Decoded::like(&format.dest);
+        for (call, numbers) in iter::zip(&row.calls, &row.numbers) {
+            self.compare_one(format, row, call, numbers, &mut decoded)
+                .map_err(|cause| format!("{cause}: {call:?}"))?;
+        }
+        Ok(())
+    }
+
+    fn compare_one(
+        &self,
+        format: &Format,
+        row: &Row,
+        call: &Call,
+        numbers: &Macroblock,
+        decoded: &mut Decoded,
+    ) -> Result<(), String> {
+        let (y, cb, cr) = original(format.pictures(), call)
+            .map_err(|error| format!("the original refuses: {error}"))?;
+        let expected = [y, cb, cr].concat();
+        if expected.len() != format.length {
+            return Err(format!("the original gives {} bytes", expected.len()));
+        }
+
+        let mut out = unlike(&expected);
+        let answer = port(format.pictures(), numbers, &mut out);
+        if answer != 0 {
+            return Err(format!("the port refuses with {answer}"));
+        }
+        same_bytes(Who::Fozdrik, &expected, &out)?;
+
+        let mut out = unlike(&expected);
+        let pictures = format.c_pictures(decoded);
+        // SAFETY: the room has a macroblock's length.
+        unsafe { bench_plain_macroblock(&pictures, numbers, out.as_mut_ptr()) };
+        same_bytes(Who::C, &expected, &out)?;
+
+        for library in self.libraries_for(row) {
+            let Call { column, row, .. } = *call;
+            for (place, sample) in iter::zip(decoded.macroblock(column, row), unlike(&expected)) {
+                *place = sample;
+            }
+            let pictures = format.c_pictures(decoded);
+            // SAFETY: the row is inside, and the decoded picture has its sides.
+            unsafe { (library.macroblock)(&pictures, numbers) };
+            library.done();
+            let out: Vec<u8> = decoded
+                .macroblock(column, row)
+                .map(|sample| *sample)
+                .collect();
+            same_bytes(library.who, &expected, &out)?;
+        }
+        Ok(())
+    }
 }
 
 fn draw_picture(rng: &mut Rng, format: ChromaFormat) -> FrameBuffer {
@@ -134,35 +274,5 @@ fn fill(rng: &mut Rng, plane: &mut Plane) {
         for x in 0..plane.width() {
             plane.put_sample(x, y, rng.byte());
         }
-    }
-}
-
-/// Sees that both give the same bytes for every call of the row.
-fn compare(format: &Format, row: &Row) -> Result<(), String> {
-    for (call, numbers) in iter::zip(&row.calls, &row.numbers) {
-        compare_one(format, call, numbers).map_err(|cause| format!("{cause}: {call:?}"))?;
-    }
-    Ok(())
-}
-
-fn compare_one(format: &Format, call: &Call, numbers: &Numbers) -> Result<(), String> {
-    let (y, cb, cr) = original(format.pictures(), call)
-        .map_err(|error| format!("the original refuses: {error}"))?;
-    let expected = [y, cb, cr].concat();
-    if expected.len() != format.length {
-        return Err(format!("the original gives {} bytes", expected.len()));
-    }
-    // No byte is what the original gives for it.
-    let mut out: Vec<u8> = expected.iter().map(|sample| !sample).collect();
-    let answer = port(format.pictures(), numbers, &mut out);
-    if answer != 0 {
-        return Err(format!("the port refuses with {answer}"));
-    }
-    match (0..out.len()).find(|place| out[*place] != expected[*place]) {
-        None => Ok(()),
-        Some(place) => Err(format!(
-            "the original gives {} and the port {} at place {place}",
-            expected[place], out[place],
-        )),
     }
 }

@@ -1,8 +1,12 @@
-//! Measures how long the port takes beside the original, in one run that alternates between the
-//! two, and prints Markdown tables.
+//! Measures how long the port takes beside the original, plain C and two libraries of decoders, in
+//! one run that takes turns between them, and prints Markdown tables.
 
+mod agreement;
+mod aligned;
 mod blocks;
+mod c;
 mod macroblocks;
+mod marks;
 mod predictors;
 mod table;
 
@@ -17,9 +21,9 @@ use table::Effort;
 
 const USAGE: &str = "\
 usage: bench [--quick] [TABLE...]
-  prints tables of the times that the original and the port take: to predict a block (blocks),
-  to predict a macroblock (macroblocks), to update the predictors (updates), to reconstruct a
-  vector (vectors); all, or those that are named
+  prints tables of the times that the contestants take: to predict a block (blocks), to predict
+  a macroblock (macroblocks), to update the predictors (updates), to reconstruct a vector
+  (vectors); all, or those that are named
   --quick  with fewer repetitions";
 
 #[derive(Clone, Copy, PartialEq)]
@@ -109,11 +113,20 @@ fn run(request: Request) -> Result<(), String> {
         .collect::<Result<_, _>>()?;
 
     println!(
-        "Batches of calls by turns of the Rust original (release build) and of Fozdrik, with the \
-         same inputs. Times are in ns a call, medians over the repetitions, and how many times \
-         as fast Fozdrik is by them; the quartiles are the Rust's, then Fozdrik's. Before that, \
-         both were seen to give the same for every call."
+        "Batches of calls by turns of the Rust original (release build), of Fozdrik, and of the \
+         others that a table has, with the same inputs, in an order that is drawn for each \
+         repetition. Times are in ns a call, medians over the repetitions, and the ratios are \
+         theirs: how many times as fast as the Rust Fozdrik is, and how much of another's time it \
+         takes. The quartiles are in the order of the columns. Before that, all were seen to give \
+         the same for every call. C is plain C, by the system's compiler at -O3."
     );
+    for who in c::absent() {
+        println!();
+        println!(
+            "{} is left out: it was not found when this program was built.",
+            who.name()
+        );
+    }
     for table in tables {
         table(request.effort);
     }

@@ -1,4 +1,5 @@
-//! The two calls that are measured: the original's and the port's.
+//! The calls that are measured: the original's and the port's, and what the contestants in C are
+//! handed.
 
 use std::fmt::{self, Display};
 
@@ -6,7 +7,9 @@ use oracle::forming_predictions::{
     BlockSize, FieldReference, ReferencePlane, predict_block, predict_field_block,
 };
 
-/// What is read, in the port's numbers.
+use crate::c;
+
+/// What is read, in the numbers of the port and of C.
 #[derive(Debug, Clone, Copy)]
 pub enum Reference {
     TopField,
@@ -34,6 +37,22 @@ impl Display for Call {
             "{width} x {height} of {reference:?} at ({}, {}) by ({}, {})",
             self.x, self.y, self.horizontal, self.vertical,
         )
+    }
+}
+
+impl From<&Call> for c::Block {
+    fn from(call: &Call) -> Self {
+        Self {
+            from: call.reference as u32,
+            x: call.x,
+            y: call.y,
+            width: call.size.width as i32,
+            height: call.size.height as i32,
+            vector: c::Vector {
+                horizontal: call.horizontal,
+                vertical: call.vertical,
+            },
+        }
     }
 }
 

@@ -4,20 +4,28 @@ use oracle::forming_predictions::{BlockSize, HalfPattern};
 use oracle::rng::Rng;
 
 use super::calls::{Call, Reference};
+use crate::c::Block;
+use crate::marks::Mark;
 
 pub const WIDTH: usize = 720;
 pub const HEIGHT: usize = 576;
 
-/// So many that the branches of one block are not learnt.
-pub const CALLS: usize = 256;
+/// So many that the branches of one block are not learnt, and that to read the clock and to start
+/// takes little beside the fastest.
+pub const CALLS: usize = 1024;
 
 /// How far the whole part of a vector goes.
 const REACH: i32 = 64;
 
-/// A row of the table, and the calls that it measures.
+/// A row of the table, and the calls that it measures, also in the form for C.
 pub struct Row {
     pub what: String,
     pub calls: Vec<Call>,
+    pub blocks: Vec<Block>,
+    /// Whether the libraries have a function for it: they have the widths of macroblocks, and read
+    /// inside alone.
+    pub in_libraries: bool,
+    pub mark: Option<Mark>,
 }
 
 #[derive(Clone, Copy)]
@@ -28,7 +36,7 @@ enum Structure {
 }
 
 /// Where the samples lie that a block reads.
-#[derive(Clone, Copy)]
+#[derive(Clone, Copy, PartialEq)]
 enum Place {
     Inside,
     /// Across an edge or a corner, with 1 to 15 columns or lines beyond it.
@@ -97,10 +105,17 @@ pub fn rows(rng: &mut Rng) -> Vec<Row> {
                     HalfPattern::HalfBoth => "both halves",
                 },
             );
-            let calls = (0..CALLS)
+            let calls: Vec<_> = (0..CALLS)
                 .map(|_| draw(rng, structure, size, place, pattern))
                 .collect();
-            rows.push(Row { what, calls });
+            let of_macroblocks = size.width == 16 || size.width == 8;
+            rows.push(Row {
+                what,
+                blocks: calls.iter().map(Block::from).collect(),
+                calls,
+                in_libraries: of_macroblocks && place == Inside,
+                mark: (of_macroblocks && place == Edges).then_some(Mark::AtLeast(5.0)),
+            });
         }
     }
     rows

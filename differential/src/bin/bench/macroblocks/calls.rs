@@ -1,4 +1,5 @@
-//! The two calls that are measured: the original's and the port's.
+//! The calls that are measured: the original's and the port's, and what the contestants in C are
+//! handed.
 
 use oracle::frame_assembly::FrameBuffer;
 use oracle::inter_reconstruction::{
@@ -6,6 +7,8 @@ use oracle::inter_reconstruction::{
     predict_field_based_macroblock_planes, predict_frame_macroblock_planes,
 };
 use oracle::port::{fozdrik_predict_field_macroblock, fozdrik_predict_frame_macroblock};
+
+use crate::c::{self, Macroblock};
 
 /// What a macroblock is predicted by, which tells the call too.
 #[derive(Debug, Clone, Copy)]
@@ -52,105 +55,65 @@ pub fn original(pictures: Pictures<'_>, call: &Call) -> InterResult<Planes> {
     }
 }
 
-/// The macroblock to predict, in the port's numbers.
-#[derive(Clone, Copy)]
-pub struct Numbers {
-    pub column: usize,
-    pub row: usize,
-    motion: MotionNumbers,
-}
-
-#[derive(Clone, Copy)]
-enum MotionNumbers {
-    Frame {
-        forward: FrameNumbers,
-        backward: FrameNumbers,
-    },
-    Field {
-        forward: FieldNumbers,
-        backward: FieldNumbers,
-    },
-}
-
-/// One direction of a macroblock with frame vectors. An absent one has zeros.
-#[derive(Clone, Copy, Default)]
-struct FrameNumbers {
-    present: u32,
-    vector: MotionVectorPel,
-}
-
-/// The same with field vectors.
-#[derive(Clone, Copy, Default)]
-struct FieldNumbers {
-    present: u32,
-    top_field: u32,
-    top: MotionVectorPel,
-    bottom_field: u32,
-    bottom: MotionVectorPel,
-}
-
-impl From<&Call> for Numbers {
+/// In the numbers of the port and of C.
+impl From<&Call> for Macroblock {
     fn from(call: &Call) -> Self {
         Self {
-            column: call.column,
-            row: call.row,
-            motion: match call.motion {
-                Motion::Frame(FrameMotion { forward, backward }) => MotionNumbers::Frame {
-                    forward: forward.map(FrameNumbers::from).unwrap_or_default(),
-                    backward: backward.map(FrameNumbers::from).unwrap_or_default(),
-                },
-                Motion::Field(FieldBasedMotion { forward, backward }) => MotionNumbers::Field {
-                    forward: forward.map(FieldNumbers::from).unwrap_or_default(),
-                    backward: backward.map(FieldNumbers::from).unwrap_or_default(),
-                },
+            column: call.column as u32,
+            row: call.row as u32,
+            by_fields: matches!(call.motion, Motion::Field(_)).into(),
+            motions: match call.motion {
+                Motion::Frame(FrameMotion { forward, backward }) => {
+                    [forward, backward].map(frame_numbers)
+                }
+                Motion::Field(FieldBasedMotion { forward, backward }) => {
+                    [forward, backward].map(field_numbers)
+                }
             },
         }
     }
 }
 
-impl From<MotionVectorPel> for FrameNumbers {
-    fn from(vector: MotionVectorPel) -> Self {
-        Self { present: 1, vector }
+/// One direction of a macroblock with frame vectors. An absent one has zeros.
+fn frame_numbers(vector: Option<MotionVectorPel>) -> c::Motion {
+    let Some(vector) = vector else {
+        return c::Motion::default();
+    };
+    c::Motion {
+        present: 1,
+        vectors: [vector.into(), c::Vector::default()],
+        ..c::Motion::default()
     }
 }
 
-impl From<(FieldVector, FieldVector)> for FieldNumbers {
-    fn from((top, bottom): (FieldVector, FieldVector)) -> Self {
-        Self {
-            present: 1,
-            top_field: top.reference_field.index() as u32,
-            top: top.vector,
-            bottom_field: bottom.reference_field.index() as u32,
-            bottom: bottom.vector,
-        }
+/// The same with field vectors.
+fn field_numbers(vectors: Option<(FieldVector, FieldVector)>) -> c::Motion {
+    let Some((top, bottom)) = vectors else {
+        return c::Motion::default();
+    };
+    c::Motion {
+        present: 1,
+        fields: [top, bottom].map(|field| field.reference_field.index() as u32),
+        vectors: [top, bottom].map(|field| field.vector.into()),
     }
 }
 
 /// 0, or the refusal's number.
-pub fn port(pictures: Pictures<'_>, numbers: &Numbers, out: &mut [u8]) -> u32 {
-    match &numbers.motion {
-        MotionNumbers::Frame { forward, backward } => {
-            port_frame(pictures, numbers, forward, backward, out)
-        }
-        MotionNumbers::Field { forward, backward } => {
-            port_field(pictures, numbers, forward, backward, out)
-        }
+pub fn port(pictures: Pictures<'_>, numbers: &Macroblock, out: &mut [u8]) -> u32 {
+    match numbers.by_fields {
+        0 => port_frame(pictures, numbers, out),
+        _ => port_field(pictures, numbers, out),
     }
 }
 
-fn port_frame(
-    pictures: Pictures<'_>,
-    numbers: &Numbers,
-    forward_motion: &FrameNumbers,
-    backward_motion: &FrameNumbers,
-    out: &mut [u8],
-) -> u32 {
+fn port_frame(pictures: Pictures<'_>, numbers: &Macroblock, out: &mut [u8]) -> u32 {
     const PRESENT: u32 = 1;
     let Pictures {
         dest,
         forward,
         backward,
     } = pictures;
+    let [forward_motion, backward_motion] = &numbers.motions;
     // SAFETY: the library reads and writes no more than the lengths that go with the pointers,
     // and keeps none.
     unsafe {
@@ -158,8 +121,8 @@ fn port_frame(
             dest.width,
             dest.height,
             dest.chroma_format as u32,
-            numbers.column,
-            numbers.row,
+            numbers.column as usize,
+            numbers.row as usize,
             PRESENT,
             forward.width,
             forward.height,
@@ -193,38 +156,33 @@ fn port_frame(
             backward.cr.samples().as_ptr(),
             backward.cr.samples().len(),
             forward_motion.present,
-            forward_motion.vector.horizontal,
-            forward_motion.vector.vertical,
+            forward_motion.vectors[0].horizontal,
+            forward_motion.vectors[0].vertical,
             backward_motion.present,
-            backward_motion.vector.horizontal,
-            backward_motion.vector.vertical,
+            backward_motion.vectors[0].horizontal,
+            backward_motion.vectors[0].vertical,
             out.as_mut_ptr(),
             out.len(),
         )
     }
 }
 
-fn port_field(
-    pictures: Pictures<'_>,
-    numbers: &Numbers,
-    forward_motion: &FieldNumbers,
-    backward_motion: &FieldNumbers,
-    out: &mut [u8],
-) -> u32 {
+fn port_field(pictures: Pictures<'_>, numbers: &Macroblock, out: &mut [u8]) -> u32 {
     const PRESENT: u32 = 1;
     let Pictures {
         dest,
         forward,
         backward,
     } = pictures;
+    let [forward_motion, backward_motion] = &numbers.motions;
     // SAFETY: as above.
     unsafe {
         fozdrik_predict_field_macroblock(
             dest.width,
             dest.height,
             dest.chroma_format as u32,
-            numbers.column,
-            numbers.row,
+            numbers.column as usize,
+            numbers.row as usize,
             PRESENT,
             forward.width,
             forward.height,
@@ -258,19 +216,19 @@ fn port_field(
             backward.cr.samples().as_ptr(),
             backward.cr.samples().len(),
             forward_motion.present,
-            forward_motion.top_field,
-            forward_motion.top.horizontal,
-            forward_motion.top.vertical,
-            forward_motion.bottom_field,
-            forward_motion.bottom.horizontal,
-            forward_motion.bottom.vertical,
+            forward_motion.fields[0],
+            forward_motion.vectors[0].horizontal,
+            forward_motion.vectors[0].vertical,
+            forward_motion.fields[1],
+            forward_motion.vectors[1].horizontal,
+            forward_motion.vectors[1].vertical,
             backward_motion.present,
-            backward_motion.top_field,
-            backward_motion.top.horizontal,
-            backward_motion.top.vertical,
-            backward_motion.bottom_field,
-            backward_motion.bottom.horizontal,
-            backward_motion.bottom.vertical,
+            backward_motion.fields[0],
+            backward_motion.vectors[0].horizontal,
+            backward_motion.vectors[0].vertical,
+            backward_motion.fields[1],
+            backward_motion.vectors[1].horizontal,
+            backward_motion.vectors[1].vertical,
             out.as_mut_ptr(),
             out.len(),
         )

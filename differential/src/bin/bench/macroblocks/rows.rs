@@ -8,7 +8,9 @@ use oracle::pmv::scale_chroma;
 use oracle::rng::Rng;
 use oracle::sequence_extension::ChromaFormat;
 
-use super::calls::{Call, Motion, Numbers};
+use super::calls::{Call, Motion};
+use crate::c::Macroblock;
+use crate::marks::Mark;
 
 pub const WIDTH: usize = 720;
 pub const HEIGHT: usize = 576;
@@ -22,11 +24,14 @@ const REACH: i32 = 64;
 /// The side of a macroblock.
 const SIDE: usize = 16;
 
-/// A row of the table: the same calls in either side's form.
+/// A row of the table: the same calls in the original's form and in numbers.
 pub struct Row {
     pub what: String,
     pub calls: Vec<Call>,
-    pub numbers: Vec<Numbers>,
+    pub numbers: Vec<Macroblock>,
+    /// Whether all that is read lies inside, as the libraries' functions ask.
+    pub inside: bool,
+    pub mark: Option<Mark>,
 }
 
 #[derive(Clone, Copy)]
@@ -43,7 +48,7 @@ enum Directions {
 }
 
 /// Where the samples lie that the blocks of a macroblock read.
-#[derive(Clone, Copy)]
+#[derive(Clone, Copy, PartialEq)]
 enum Place {
     Inside,
     /// Across an edge or a corner, the same one for each vector and component.
@@ -130,7 +135,10 @@ impl Axis {
 /// The rows of a format.
 pub fn rows(rng: &mut Rng, name: &str, format: ChromaFormat) -> Vec<Row> {
     let mut rows = Vec::new();
-    for (structure, structure_name) in [(Structure::Frame, "frame"), (Structure::Field, "field")] {
+    for (structure, structure_name, mark) in [
+        (Structure::Frame, "frame", Mark::AtMost(1.2)),
+        (Structure::Field, "field", Mark::AtMost(1.5)),
+    ] {
         for (directions, directions_name) in [
             (Directions::One, "one direction"),
             (Directions::Two, "two directions"),
@@ -139,8 +147,10 @@ pub fn rows(rng: &mut Rng, name: &str, format: ChromaFormat) -> Vec<Row> {
                 let calls = draw_calls(rng, format, structure, directions, place);
                 rows.push(Row {
                     what: format!("{name}, {structure_name}, {directions_name}, {place_name}"),
-                    numbers: calls.iter().map(Numbers::from).collect(),
+                    numbers: calls.iter().map(Macroblock::from).collect(),
                     calls,
+                    inside: place == Place::Inside,
+                    mark: (place == Place::Inside).then_some(mark),
                 });
             }
         }

@@ -6,16 +6,25 @@ use std::iter;
 use oracle::macroblock_modes::PredictionType;
 use oracle::picture_header::PictureStructure;
 use oracle::pmv::{Pmv, PmvUpdateContext, PmvUpdateOutcome, update_predictors};
+use oracle::port::fozdrik_update_predictors;
 use oracle::refusals;
 use oracle::rng::Rng;
 
-use super::{CALLS, Predictors, REFUSED, batch, paragraph, pmv, predictors, same, table};
-use crate::table::Effort;
+use super::{
+    CALLS, MARK, PredictorBytes, Predictors, REFUSED, batch, bytes, numbers, paragraph, pmv,
+    predictors, same, table,
+};
+use crate::c::{Update, bench_plain_update};
+use crate::marks::Marks;
+use crate::table::{Effort, Who};
 
 const SEED: u64 = 768;
 
 type Original = fn(&mut Pmv, PmvUpdateContext) -> oracle::Result<PmvUpdateOutcome>;
-type Port = extern "C" fn(u32, u32, u32, u32, u32, u32, &mut Predictors) -> u32;
+type Port =
+    unsafe extern "C" fn(u32, u32, u32, u32, u32, u32, u32, *mut u8, usize, *mut u8, usize) -> u32;
+type Layer = extern "C" fn(u32, u32, u32, u32, u32, u32, &mut Predictors) -> u32;
+type Plain = unsafe extern "C" fn(&mut Predictors, &Update) -> u32;
 
 // SAFETY: the library reads and writes the record that it is lent and no more, and does not keep it.
 unsafe extern "C" {
@@ -31,9 +40,9 @@ unsafe extern "C" {
     ) -> u32;
 }
 
-/// A context in the port's numbers.
+/// A context in the layer's numbers.
 #[derive(Clone, Copy)]
-struct Numbers {
+struct LayerNumbers {
     structure: u32,
     prediction_type: u32,
     forward: u32,
@@ -42,7 +51,7 @@ struct Numbers {
     concealment: u32,
 }
 
-impl From<PmvUpdateContext> for Numbers {
+impl From<PmvUpdateContext> for LayerNumbers {
     fn from(context: PmvUpdateContext) -> Self {
         const ABSENT: u32 = 4;
         Self {
@@ -56,12 +65,29 @@ impl From<PmvUpdateContext> for Numbers {
     }
 }
 
-/// A row of the table: the same calls in either side's form, and the predictors before the first.
+/// In the numbers of the port's entry points.
+impl From<PmvUpdateContext> for Update {
+    fn from(context: PmvUpdateContext) -> Self {
+        Self {
+            picture_structure: context.picture_structure as u32,
+            prediction_type_present: context.prediction_type.is_some().into(),
+            prediction_type: context.prediction_type.map_or(0, |kind| kind as u32),
+            forward: context.macroblock_motion_forward.into(),
+            backward: context.macroblock_motion_backward.into(),
+            intra: context.macroblock_intra.into(),
+            concealment: context.concealment_motion_vectors.into(),
+        }
+    }
+}
+
+/// A row of the table: the same calls in the form of each contestant, and the predictors before the
+/// first.
 struct Row {
     what: String,
     start: Predictors,
     contexts: Vec<PmvUpdateContext>,
-    numbers: Vec<Numbers>,
+    updates: Vec<Update>,
+    layer_numbers: Vec<LayerNumbers>,
 }
 
 pub struct Updates {
@@ -69,7 +95,7 @@ pub struct Updates {
 }
 
 impl Updates {
-    /// Draws the calls, and sees that both sides answer them alike.
+    /// Draws the calls, and sees that all contestants answer them alike.
     pub fn prepare() -> Result<Self, String> {
         let mut rng = Rng::new(SEED);
         let mut rows = Vec::new();
@@ -83,7 +109,8 @@ impl Updates {
             let mut row = Row {
                 what: what.to_owned(),
                 start: draw_predictors(&mut rng),
-                numbers: contexts.iter().copied().map(Numbers::from).collect(),
+                updates: contexts.iter().copied().map(Update::from).collect(),
+                layer_numbers: contexts.iter().copied().map(LayerNumbers::from).collect(),
                 contexts,
             };
             let refused = compare(&mut rng, &row).map_err(|cause| format!("{what}: {cause}"))?;
@@ -103,24 +130,39 @@ impl Updates {
                 "`update_predictors` with drawn contexts",
                 "As in a stream is a made-up mix: of 16 macroblocks 2 intra, 1 without motion, 10 \
                  with motion that copies predictors, 3 with motion that does not.",
-                ", and reads and writes all eight predictors",
+                ", of which it reads and writes all eight",
             ),
         );
+        let mut marks = Marks::default();
         for row in &self.rows {
-            table.print_row(
+            let times = table.print_row(
                 &row.what,
-                &mut || original_batch(row, update_predictors),
-                &mut || port_batch(row, fozdrik_bench_update),
+                &mut [
+                    (Who::Rust, &mut || original_batch(row, update_predictors)),
+                    (Who::Fozdrik, &mut || {
+                        port_batch(row, fozdrik_update_predictors)
+                    }),
+                    (Who::Layer, &mut || layer_batch(row, fozdrik_bench_update)),
+                    (Who::C, &mut || plain_batch(row, bench_plain_update)),
+                ],
             );
+            marks.see(&row.what, MARK, &times);
         }
         let row = &self.rows[0];
         let original = black_box(no_original as Original);
         let port = black_box(no_port as Port);
+        let layer = black_box(no_layer as Layer);
+        let plain = black_box(no_plain as Plain);
         table.print_overhead(
             "the loop alone",
-            &mut || original_batch(row, original),
-            &mut || port_batch(row, port),
+            &mut [
+                (Who::Rust, &mut || original_batch(row, original)),
+                (Who::Fozdrik, &mut || port_batch(row, port)),
+                (Who::Layer, &mut || layer_batch(row, layer)),
+                (Who::C, &mut || plain_batch(row, plain)),
+            ],
         );
+        marks.print();
     }
 }
 
@@ -208,43 +250,95 @@ fn draw_predictors(rng: &mut Rng) -> Predictors {
     [(); 8].map(|()| rng.between(-2048, 2047))
 }
 
-/// Sees that both give the same for every call of the row, and counts the refused ones. Beside
+/// The predictors of each contestant.
+struct Records {
+    original: Pmv,
+    port: PredictorBytes,
+    layer: Predictors,
+    plain: Predictors,
+}
+
+impl Records {
+    fn new(predictors: Predictors) -> Self {
+        Self {
+            original: pmv(predictors),
+            port: bytes(predictors),
+            layer: predictors,
+            plain: predictors,
+        }
+    }
+}
+
+/// Sees that all give the same for every call of the row, and counts the refused ones. Beside
 /// the carried predictors, which are soon zeros, each call gets drawn ones.
 fn compare(rng: &mut Rng, row: &Row) -> Result<usize, String> {
     let mut refused = 0;
-    let (mut original_carried, mut port_carried) = (pmv(row.start), row.start);
-    for (context, numbers) in iter::zip(&row.contexts, &row.numbers) {
-        let accepted = compare_one(*context, *numbers, &mut original_carried, &mut port_carried)?;
+    let mut carried = Records::new(row.start);
+    for (place, context) in row.contexts.iter().enumerate() {
+        let (update, layer_numbers) = (&row.updates[place], &row.layer_numbers[place]);
+        let accepted = compare_one(*context, update, layer_numbers, &mut carried)?;
         refused += usize::from(!accepted);
-        let mut drawn = draw_predictors(rng);
-        compare_one(*context, *numbers, &mut pmv(drawn), &mut drawn)?;
+        let mut drawn = Records::new(draw_predictors(rng));
+        compare_one(*context, update, layer_numbers, &mut drawn)?;
     }
     Ok(refused)
 }
 
-/// Whether both accept.
+/// Whether all accept.
 fn compare_one(
     context: PmvUpdateContext,
-    numbers: Numbers,
-    original_record: &mut Pmv,
-    port_record: &mut Predictors,
+    update: &Update,
+    layer_numbers: &LayerNumbers,
+    records: &mut Records,
 ) -> Result<bool, String> {
-    let expected = match update_predictors(original_record, context) {
+    let answer = match update_predictors(&mut records.original, context) {
         Ok(outcome) => outcome as u32,
         Err(error) => REFUSED + u32::from(refusals::number(error)?),
     };
-    let answer = port_call(numbers, fozdrik_bench_update, port_record);
-    same(
-        context,
-        (expected, predictors(original_record)),
-        (answer, *port_record),
-    )?;
-    Ok(expected < REFUSED)
+    let expected = (answer, predictors(&records.original));
+
+    let answer = port_call(update, fozdrik_update_predictors, &mut records.port);
+    let given = (answer, numbers(&records.port));
+    same(Who::Fozdrik, context, &expected, &given)?;
+
+    let answer = layer_call(layer_numbers, fozdrik_bench_update, &mut records.layer);
+    same(Who::Layer, context, &expected, &(answer, records.layer))?;
+
+    let answer = plain_call(update, bench_plain_update, &mut records.plain);
+    same(Who::C, context, &expected, &(answer, records.plain))?;
+    Ok(expected.0 < REFUSED)
+}
+
+/// The outcome's number, or 16 and the refusal's.
+#[inline(always)]
+fn port_call(update: &Update, port: Port, predictors: &mut PredictorBytes) -> u32 {
+    let mut outcome = 0;
+    // SAFETY: the library reads and writes no more than the lengths that go with the pointers,
+    // and keeps neither.
+    let refusal = unsafe {
+        port(
+            update.picture_structure,
+            update.prediction_type_present,
+            update.prediction_type,
+            update.forward,
+            update.backward,
+            update.intra,
+            update.concealment,
+            predictors.as_mut_ptr(),
+            predictors.len(),
+            &raw mut outcome,
+            1,
+        )
+    };
+    match refusal {
+        0 => u32::from(outcome),
+        refusal => REFUSED + refusal,
+    }
 }
 
 #[inline(always)]
-fn port_call(numbers: Numbers, port: Port, predictors: &mut Predictors) -> u32 {
-    port(
+fn layer_call(numbers: &LayerNumbers, layer: Layer, predictors: &mut Predictors) -> u32 {
+    layer(
         numbers.structure,
         numbers.prediction_type,
         numbers.forward,
@@ -253,6 +347,12 @@ fn port_call(numbers: Numbers, port: Port, predictors: &mut Predictors) -> u32 {
         numbers.concealment,
         predictors,
     )
+}
+
+#[inline(always)]
+fn plain_call(update: &Update, plain: Plain, predictors: &mut Predictors) -> u32 {
+    // SAFETY: it reads and writes what it is lent.
+    unsafe { plain(predictors, update) }
 }
 
 // Inlined, so that the call is direct.
@@ -267,14 +367,47 @@ fn original_batch(row: &Row, original: Original) {
 
 #[inline(always)]
 fn port_batch(row: &Row, port: Port) {
-    let answer = |numbers: &Numbers, predictors: &mut _| port_call(*numbers, port, predictors);
-    batch(&row.numbers, row.start, answer);
+    let answer = |update: &_, predictors: &mut _| port_call(update, port, predictors);
+    batch(&row.updates, bytes(row.start), answer);
+}
+
+#[inline(always)]
+fn layer_batch(row: &Row, layer: Layer) {
+    let answer = |numbers: &_, predictors: &mut _| layer_call(numbers, layer, predictors);
+    batch(&row.layer_numbers, row.start, answer);
+}
+
+#[inline(always)]
+fn plain_batch(row: &Row, plain: Plain) {
+    let answer = |update: &_, predictors: &mut _| plain_call(update, plain, predictors);
+    batch(&row.updates, row.start, answer);
 }
 
 fn no_original(_: &mut Pmv, _: PmvUpdateContext) -> oracle::Result<PmvUpdateOutcome> {
     Ok(PmvUpdateOutcome::NoUpdate)
 }
 
-extern "C" fn no_port(_: u32, _: u32, _: u32, _: u32, _: u32, _: u32, _: &mut Predictors) -> u32 {
+#[allow(clippy::too_many_arguments)]
+extern "C" fn no_port(
+    _: u32,
+    _: u32,
+    _: u32,
+    _: u32,
+    _: u32,
+    _: u32,
+    _: u32,
+    _: *mut u8,
+    _: usize,
+    _: *mut u8,
+    _: usize,
+) -> u32 {
+    0
+}
+
+extern "C" fn no_layer(_: u32, _: u32, _: u32, _: u32, _: u32, _: u32, _: &mut Predictors) -> u32 {
+    0
+}
+
+extern "C" fn no_plain(_: &mut Predictors, _: &Update) -> u32 {
     0
 }

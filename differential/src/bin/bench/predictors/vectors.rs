@@ -10,11 +10,17 @@ use oracle::pmv::{
     Direction, Pmv, ReconstructedComponent, VectorIndex, compute_delta, reconstruct_motion_vector,
     vector_range,
 };
+use oracle::port::fozdrik_reconstruct_motion_vector;
 use oracle::refusals;
 use oracle::rng::Rng;
 
-use super::{CALLS, Predictors, REFUSED, batch, fold, paragraph, pmv, predictors, same, table};
-use crate::table::Effort;
+use super::{
+    CALLS, MARK, PredictorBytes, Predictors, REFUSED, batch, bytes, fold, number, numbers,
+    paragraph, pmv, predictors, same, table,
+};
+use crate::c::{Coded, CodedVector, bench_plain_vector};
+use crate::marks::Marks;
+use crate::table::{Effort, Who};
 
 const SEED: u64 = 769;
 
@@ -29,7 +35,26 @@ type Original = fn(
     PictureStructure,
 ) -> oracle::Result<[ReconstructedComponent; 2]>;
 
-type Port = extern "C" fn(
+type Port = unsafe extern "C" fn(
+    u32,
+    u32,
+    i32,
+    u32,
+    u8,
+    i32,
+    u32,
+    u8,
+    u8,
+    u8,
+    u32,
+    u32,
+    *mut u8,
+    usize,
+    *mut u8,
+    usize,
+) -> u32;
+
+type Layer = extern "C" fn(
     u32,
     u32,
     i32,
@@ -44,8 +69,13 @@ type Port = extern "C" fn(
     &mut Components,
 ) -> u32;
 
+type Plain = unsafe extern "C" fn(&mut Predictors, &CodedVector, &mut Components) -> u32;
+
 /// Both components of a vector, the horizontal one first.
 type Components = [i32; 2];
+
+/// The same as the port's entry point has them.
+type ComponentBytes = [[u8; 4]; 2];
 
 // SAFETY: the library reads and writes the two arrays that it is lent and no more, and keeps neither.
 unsafe extern "C" {
@@ -77,9 +107,9 @@ struct Vector {
     structure: PictureStructure,
 }
 
-/// A call in the port's numbers.
+/// A call in the layer's numbers.
 #[derive(Clone, Copy)]
-struct Numbers {
+struct LayerNumbers {
     r: u32,
     s: u32,
     codes: [i32; 2],
@@ -89,7 +119,7 @@ struct Numbers {
     structure: u32,
 }
 
-impl From<Vector> for Numbers {
+impl From<Vector> for LayerNumbers {
     fn from(vector: Vector) -> Self {
         const ABSENT: u32 = 256;
         let MotionVector {
@@ -112,6 +142,36 @@ impl From<Vector> for Numbers {
     }
 }
 
+/// In the numbers of the port's entry point.
+impl From<Vector> for CodedVector {
+    fn from(vector: Vector) -> Self {
+        let MotionVector {
+            motion_code_horiz,
+            motion_residual_horiz,
+            motion_code_vert,
+            motion_residual_vert,
+            ..
+        } = vector.coded;
+        let coded = |code: i8, residual: Option<u8>, f_code: u8| Coded {
+            code: code.into(),
+            residual_present: residual.is_some().into(),
+            residual: residual.map_or(0, u32::from),
+            f_code: f_code.into(),
+        };
+        let [f_code_horiz, f_code_vert] = vector.f_codes;
+        Self {
+            r: vector.r as u32,
+            s: vector.s as u32,
+            mv_format: vector.format as u32,
+            picture_structure: vector.structure as u32,
+            components: [
+                coded(motion_code_horiz, motion_residual_horiz, f_code_horiz),
+                coded(motion_code_vert, motion_residual_vert, f_code_vert),
+            ],
+        }
+    }
+}
+
 /// The f_codes of a picture, by direction and component.
 type FCodes = [[u8; 2]; 2];
 
@@ -128,12 +188,14 @@ const MODES: [Mode; 6] = [
 ];
 const HALVING: Mode = (MvFormat::Field, PictureStructure::Frame);
 
-/// A row of the table: the same calls in either side's form, and the predictors before the first.
+/// A row of the table: the same calls in the form of each contestant, and the predictors before the
+/// first.
 struct Row {
     what: String,
     start: Predictors,
     vectors: Vec<Vector>,
-    numbers: Vec<Numbers>,
+    coded: Vec<CodedVector>,
+    layer_numbers: Vec<LayerNumbers>,
 }
 
 pub struct Vectors {
@@ -141,7 +203,7 @@ pub struct Vectors {
 }
 
 impl Vectors {
-    /// Draws the calls, and sees that both sides answer them alike.
+    /// Draws the calls, and sees that all contestants answer them alike.
     pub fn prepare() -> Result<Self, String> {
         const SOME: FCodes = [[3, 2], [5, 4]];
         const ONES: FCodes = [[1; 2]; 2];
@@ -162,7 +224,8 @@ impl Vectors {
             let mut row = Row {
                 what: what.to_owned(),
                 start: draw_predictors(&mut rng, f_codes),
-                numbers: vectors.iter().copied().map(Numbers::from).collect(),
+                coded: vectors.iter().copied().map(CodedVector::from).collect(),
+                layer_numbers: vectors.iter().copied().map(LayerNumbers::from).collect(),
                 vectors,
             };
             let refused = compare(&row).map_err(|cause| format!("{what}: {cause}"))?;
@@ -182,31 +245,48 @@ impl Vectors {
                 "`reconstruct_motion_vector` with drawn codes and residuals",
                 "The f_codes are the two forward ones, then the two backward ones, horizontal \
                  before vertical.",
-                "; the original gives four numbers for each component, Fozdrik the component",
+                "; the original gives four numbers for each component, the others the component",
             ),
         );
+        let mut marks = Marks::default();
         for row in &self.rows {
-            table.print_row(
+            let times = table.print_row(
                 &row.what,
-                &mut || original_batch(row, reconstruct_motion_vector),
-                &mut || port_batch(row, fozdrik_bench_vector),
+                &mut [
+                    (Who::Rust, &mut || {
+                        original_batch(row, reconstruct_motion_vector)
+                    }),
+                    (Who::Fozdrik, &mut || {
+                        port_batch(row, fozdrik_reconstruct_motion_vector)
+                    }),
+                    (Who::Layer, &mut || layer_batch(row, fozdrik_bench_vector)),
+                    (Who::C, &mut || plain_batch(row, bench_plain_vector)),
+                ],
             );
+            marks.see(&row.what, MARK, &times);
         }
         let row = &self.rows[0];
         let original = black_box(no_original as Original);
         let port = black_box(no_port as Port);
+        let layer = black_box(no_layer as Layer);
+        let plain = black_box(no_plain as Plain);
         table.print_overhead(
             "the loop alone",
-            &mut || original_batch(row, original),
-            &mut || port_batch(row, port),
+            &mut [
+                (Who::Rust, &mut || original_batch(row, original)),
+                (Who::Fozdrik, &mut || port_batch(row, port)),
+                (Who::Layer, &mut || layer_batch(row, layer)),
+                (Who::C, &mut || plain_batch(row, plain)),
+            ],
         );
+        marks.print();
     }
 }
 
 /// A code, and its residual.
-type Coded = (i8, Option<u8>);
+type Drawn = (i8, Option<u8>);
 /// How a component is drawn for an f_code.
-type Draw = fn(&mut Rng, u8) -> Coded;
+type Draw = fn(&mut Rng, u8) -> Drawn;
 
 fn draw_vector(rng: &mut Rng, f_codes: FCodes, modes: &[Mode], vertical: Draw) -> Vector {
     let r = rng.pick(&[VectorIndex::First, VectorIndex::Second]);
@@ -236,7 +316,7 @@ fn draw_vector(rng: &mut Rng, f_codes: FCodes, modes: &[Mode], vertical: Draw) -
 
 /// Any code and residual but those of the delta 16f: it is refused, and with all others the
 /// predictors stay in range.
-fn accepted(rng: &mut Rng, f_code: u8) -> Coded {
+fn accepted(rng: &mut Rng, f_code: u8) -> Drawn {
     let f = 1 << (f_code - 1);
     loop {
         let code = rng.between(-16, 16) as i8;
@@ -250,7 +330,7 @@ fn accepted(rng: &mut Rng, f_code: u8) -> Coded {
 
 /// One in 16 is refused: for a residual where none belongs, for none where one does, or for the
 /// delta 16f. The f_code is not 1.
-fn sometimes_refused(rng: &mut Rng, f_code: u8) -> Coded {
+fn sometimes_refused(rng: &mut Rng, f_code: u8) -> Drawn {
     let largest = (1 << (f_code - 1)) - 1;
     match rng.below(16) {
         0 => rng.pick(&[(0, Some(0)), (1, None), (16, Some(largest))]),
@@ -269,32 +349,54 @@ fn draw_predictors(rng: &mut Rng, f_codes: FCodes) -> Predictors {
     predictors(&pmv)
 }
 
-/// Sees that both give the same for every call of the row, and counts the refused ones.
+/// Sees that all give the same for every call of the row, and counts the refused ones.
 fn compare(row: &Row) -> Result<usize, String> {
     // No component is so large: what a refusal leaves is seen.
     const BEFORE: Components = [i32::MIN; 2];
 
     let mut refused = 0;
-    let (mut original_record, mut port_record) = (pmv(row.start), row.start);
-    for (vector, numbers) in iter::zip(&row.vectors, &row.numbers) {
-        let (expected, components) =
+    let mut original_record = pmv(row.start);
+    let mut port_record = bytes(row.start);
+    let (mut layer_record, mut plain_record) = (row.start, row.start);
+    for (place, vector) in row.vectors.iter().enumerate() {
+        let (answer, components) =
             match original_call(vector, reconstruct_motion_vector, &mut original_record) {
                 Ok(components) => (0, components.map(|component| component.vector_prime)),
                 Err(error) => (u32::from(refusals::number(error)?), BEFORE),
             };
-        let mut written = BEFORE;
+        let expected = (answer, components, predictors(&original_record));
+        refused += usize::from(answer != 0);
+
+        let mut written = BEFORE.map(i32::to_le_bytes);
         let answer = port_call(
-            numbers,
-            fozdrik_bench_vector,
+            &row.coded[place],
+            fozdrik_reconstruct_motion_vector,
             &mut port_record,
             &mut written,
         );
-        same(
-            vector,
-            (expected, components, predictors(&original_record)),
-            (answer, written, port_record),
-        )?;
-        refused += usize::from(expected != 0);
+        let written = written.each_ref().map(number);
+        let given = (answer, written, numbers(&port_record));
+        same(Who::Fozdrik, vector, &expected, &given)?;
+
+        let mut written = BEFORE;
+        let answer = layer_call(
+            &row.layer_numbers[place],
+            fozdrik_bench_vector,
+            &mut layer_record,
+            &mut written,
+        );
+        let given = (answer, written, layer_record);
+        same(Who::Layer, vector, &expected, &given)?;
+
+        let mut written = BEFORE;
+        let answer = plain_call(
+            &row.coded[place],
+            bench_plain_vector,
+            &mut plain_record,
+            &mut written,
+        );
+        let given = (answer, written, plain_record);
+        same(Who::C, vector, &expected, &given)?;
     }
     Ok(refused)
 }
@@ -313,13 +415,36 @@ fn original_batch(row: &Row, original: Original) {
 
 #[inline(always)]
 fn port_batch(row: &Row, port: Port) {
+    let mut vector = [[0; 4]; 2];
+    let answer =
+        |coded: &_, predictors: &mut _| match port_call(coded, port, predictors, &mut vector) {
+            0 => fold(number(&vector[0]) as u32, number(&vector[1]) as u32),
+            refusal => refusal,
+        };
+    batch(&row.coded, bytes(row.start), answer);
+}
+
+#[inline(always)]
+fn layer_batch(row: &Row, layer: Layer) {
     let mut vector = [0; 2];
     let answer =
-        |numbers: &_, predictors: &mut _| match port_call(numbers, port, predictors, &mut vector) {
+        |numbers: &_, predictors: &mut _| match layer_call(numbers, layer, predictors, &mut vector)
+        {
             0 => fold(vector[0] as u32, vector[1] as u32),
             refusal => refusal,
         };
-    batch(&row.numbers, row.start, answer);
+    batch(&row.layer_numbers, row.start, answer);
+}
+
+#[inline(always)]
+fn plain_batch(row: &Row, plain: Plain) {
+    let mut vector = [0; 2];
+    let answer =
+        |coded: &_, predictors: &mut _| match plain_call(coded, plain, predictors, &mut vector) {
+            0 => fold(vector[0] as u32, vector[1] as u32),
+            refusal => refusal,
+        };
+    batch(&row.coded, row.start, answer);
 }
 
 #[inline(always)]
@@ -341,12 +466,45 @@ fn original_call(
 
 #[inline(always)]
 fn port_call(
-    numbers: &Numbers,
+    coded: &CodedVector,
     port: Port,
+    predictors: &mut PredictorBytes,
+    vector: &mut ComponentBytes,
+) -> u32 {
+    let [horizontal, vertical] = &coded.components;
+    let vector = vector.as_flattened_mut();
+    // SAFETY: the library reads and writes no more than the lengths that go with the pointers,
+    // and keeps neither.
+    unsafe {
+        port(
+            coded.r,
+            coded.s,
+            horizontal.code,
+            horizontal.residual_present,
+            horizontal.residual as u8,
+            vertical.code,
+            vertical.residual_present,
+            vertical.residual as u8,
+            horizontal.f_code as u8,
+            vertical.f_code as u8,
+            coded.mv_format,
+            coded.picture_structure,
+            predictors.as_mut_ptr(),
+            predictors.len(),
+            vector.as_mut_ptr(),
+            vector.len(),
+        )
+    }
+}
+
+#[inline(always)]
+fn layer_call(
+    numbers: &LayerNumbers,
+    layer: Layer,
     predictors: &mut Predictors,
     vector: &mut Components,
 ) -> u32 {
-    port(
+    layer(
         numbers.r,
         numbers.s,
         numbers.codes[0],
@@ -360,6 +518,17 @@ fn port_call(
         predictors,
         vector,
     )
+}
+
+#[inline(always)]
+fn plain_call(
+    coded: &CodedVector,
+    plain: Plain,
+    predictors: &mut Predictors,
+    vector: &mut Components,
+) -> u32 {
+    // SAFETY: it reads and writes what it is lent.
+    unsafe { plain(predictors, coded, vector) }
 }
 
 #[allow(clippy::too_many_arguments)]
@@ -388,6 +557,28 @@ extern "C" fn no_port(
     _: u32,
     _: i32,
     _: u32,
+    _: u8,
+    _: i32,
+    _: u32,
+    _: u8,
+    _: u8,
+    _: u8,
+    _: u32,
+    _: u32,
+    _: *mut u8,
+    _: usize,
+    _: *mut u8,
+    _: usize,
+) -> u32 {
+    0
+}
+
+#[allow(clippy::too_many_arguments)]
+extern "C" fn no_layer(
+    _: u32,
+    _: u32,
+    _: i32,
+    _: u32,
     _: i32,
     _: u32,
     _: u8,
@@ -397,5 +588,9 @@ extern "C" fn no_port(
     _: &mut Predictors,
     _: &mut Components,
 ) -> u32 {
+    0
+}
+
+extern "C" fn no_plain(_: &mut Predictors, _: &CodedVector, _: &mut Components) -> u32 {
     0
 }
