@@ -4,5 +4,4 @@ pub mod Keeps
 pub mod Bounds
 pub mod Steps
 pub mod Runs
-pub mod Cases
 pub mod Table
