@@ -22,9 +22,9 @@ use Rattle.inter_reconstruction.proofs.Rectangles.{rectangle-length}
 
 -- the chrominance's sides, for all formats
 chroma-sides : (f : ChromaFormat) → ChromaSides (blockWidth f cb) (blockHeight f cb)
-chroma-sides Yuv420 = record { wide-lo = omega arith; wide = omega arith; high-lo = omega arith; high = omega arith; even = refl }
-chroma-sides Yuv422 = record { wide-lo = omega arith; wide = omega arith; high-lo = omega arith; high = omega arith; even = refl }
-chroma-sides Yuv444 = record { wide-lo = omega arith; wide = omega arith; high-lo = omega arith; high = omega arith; even = refl }
+chroma-sides Yuv420 = record { wide-lo = omega arith; wide = omega arith; eights = refl; high-lo = omega arith; high = omega arith; even = refl }
+chroma-sides Yuv422 = record { wide-lo = omega arith; wide = omega arith; eights = refl; high-lo = omega arith; high = omega arith; even = refl }
+chroma-sides Yuv444 = record { wide-lo = omega arith; wide = omega arith; eights = refl; high-lo = omega arith; high = omega arith; even = refl }
 
 -- a multiple of an even number is even
 even-multiple : (r h : ℕ) → h % 2 ≡ 0 → r * h % 2 ≡ 0
@@ -43,6 +43,7 @@ luma-at m c e =
       top = omega (arith, c .line);
       some = omega arith;
       wide = omega arith;
+      eights = refl;
       tall = omega arith;
       high = omega arith;
       count = e;
@@ -89,6 +90,7 @@ module _ (f : ChromaFormat) (w h : ℕ) (ew : w ≡ blockWidth f cb) (eh : h ≡
           top = chroma-top;
           some = omega (arith, sides .wide-lo);
           wide = sides .wide;
+          eights = sides .eights;
           tall = omega (arith, sides .high-lo);
           high = sides .high;
           count = e ∙ sym chroma-bytes;

@@ -108,7 +108,7 @@ block-small b = mul-le-mul (b .wide) (b .high)
 
 pub with-count : {x y w h n : ℕ} (m : ℕ) → BlockAt x y w h n → m ≡ w * h → BlockAt x y w h m
 with-count m b e =
-    record { left = b .left; top = b .top; some = b .some; wide = b .wide; tall = b .tall; high = b .high; count = e }
+    record { left = b .left; top = b .top; some = b .some; wide = b .wide; eights = b .eights; tall = b .tall; high = b .high; count = e }
 
 -- half its rows are a block of a field's lines
 pub half-block : {x y w h n : ℕ} → BlockAt x y w h n → FieldRows y h → BlockAt x (y / 2) w (h / 2) (w * (h / 2))
@@ -118,6 +118,7 @@ half-block b f =
       top = omega (arith, b .top);
       some = b .some;
       wide = b .wide;
+      eights = b .eights;
       tall = omega (arith, b .tall, f .even);
       high = omega (arith, b .high);
       count = refl;

@@ -24,7 +24,7 @@ use forming_predictions::predict_field_block;
 use pmv::kinds::ChromaFormat;
 ghost use mathlib.Core.Path.{_≡_};
 ghost use mathlib.Core.List.{_++_};
-ghost use Prim.Native.Nat.{_+_, _*_, _≤_};
+ghost use Prim.Native.Nat.{_+_, _*_, _%_, _≤_, _<_};
 ghost use lib.ListN.{length};
 ghost use Rattle.laws.specs.Tabulate.{tabulate};
 ghost use Rattle.combine_predictions.specs.Refusals.{unlessRefused};
@@ -134,9 +134,21 @@ fn copy_samples(from: &[u8], out: &mut [u8])
     }
 }
 
+/// A row of 8 or 16, by eights: a copy of a fixed length is one load and one store, and no call.
+fn copy_row(from: &[u8], out: &mut [u8])
+    requires { ⌜ (length (now out) ≡ length (now from)) × (0 < length (now out)) × (length (now out) ≤ 16) × (length (now out) % 8 ≡ 0) ⌝ }
+    ensures { λ r. ⌜ now (out .exit) ≡ now (from .entry) ⌝ }
+{
+    copy_samples(&from[0..8], &mut out[0..8]);
+    if out.len() == 8 {
+        return;
+    }
+    copy_samples(&from[8..16], &mut out[8..16]);
+}
+
 /// Two field blocks of `half` rows, one after the other, become the rows of a frame: a row of the one, a row of the other.
 fn interleave(halves: &[u8], width: usize, half: usize, out: &mut [u8])
-    requires { ⌜ (width ≤ 16) × (half ≤ 8) × (length (now halves) ≡ width * (half + half)) × (length (now out) ≡ width * (half + half)) ⌝ }
+    requires { ⌜ (width ≤ 16) × (half ≤ 8) × (length (now halves) ≡ width * (half + half)) × (length (now out) ≡ width * (half + half)) × (0 < width) × (width % 8 ≡ 0) ⌝ }
     ensures { λ r. ⌜ now (out .exit) ≡ tabulate (width * (half + half)) (interleavedCell (now (halves .entry)) width half) ⌝ }
 {
     let height = half + half;
@@ -146,7 +158,7 @@ fn interleave(halves: &[u8], width: usize, half: usize, out: &mut [u8])
         let b = a + width;
         let o = r * width;
         let e = o + width;
-        copy_samples(&halves[a..b], &mut out[o..e]);
+        copy_row(&halves[a..b], &mut out[o..e]);
         r += 1;
     }
 }

@@ -23,6 +23,7 @@ pub record BlockAt (x y w h n : ℕ) : Type 0 where
   pub top : y ≤ 16368
   pub some : 0 < w
   pub wide : w ≤ 16
+  pub eights : w % 8 ≡ 0
   pub tall : 0 < h
   pub high : h ≤ 16
   pub count : n ≡ w * h
@@ -61,6 +62,7 @@ forwardBytes Skipped n = n
 pub record ChromaSides (w h : ℕ) : Type 0 where
   pub wide-lo : 8 ≤ w
   pub wide : w ≤ 16
+  pub eights : w % 8 ≡ 0
   pub high-lo : 8 ≤ h
   pub high : h ≤ 16
   pub even : h % 2 ≡ 0

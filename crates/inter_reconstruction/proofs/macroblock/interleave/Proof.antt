@@ -73,19 +73,24 @@ mul-o c = omega (arith, room2 c, few c, c .before .loop .inv .filled .long, star
 add-e : tie.Need-add-e Inv-loop μ-loop
 add-e c = omega (arith, room2 c, few c, c .before .loop .inv .filled .long, start (c .before) .pre .3)
 
-part-copy-samples-end : tie.Need-part-copy-samples-end Inv-loop μ-loop
-part-copy-samples-end c = room c
+part-copy-row-end : tie.Need-part-copy-row-end Inv-loop μ-loop
+part-copy-row-end c = room c
 
-part-copy-samples-end-2 : tie.Need-part-copy-samples-end-2 Inv-loop μ-loop
-part-copy-samples-end-2 c = room2 (c .before)
+part-copy-row-end-2 : tie.Need-part-copy-row-end-2 Inv-loop μ-loop
+part-copy-row-end-2 c = room2 (c .before)
 
-copy-samples-requires : tie.Need-copy-samples-requires Inv-loop μ-loop
-copy-samples-requires c κs =
+copy-row-requires : tie.Need-copy-row-requires Inv-loop μ-loop
+copy-row-requires c κs =
     let i = c .before .before in
     let l = i .before in
-    let a = start l .args in
-    rows-part (l .loop .inv) (i .loop-test .taken)
-    ∙ sym (part-length (a .halves .now) (source i * a .width) (source i * a .width + a .width) (room i) ∙ omega arith)
+    let s = start l in
+    let a = s .args in
+    let long = rows-part (l .loop .inv) (i .loop-test .taken) in (
+      long ∙ sym (part-length (a .halves .now) (source i * a .width) (source i * a .width + a .width) (room i) ∙ omega arith),
+      omega (arith, long, s .pre .4),
+      omega (arith, long, s .pre .0),
+      rw long (s .pre .5),
+    )
 
 add-r : tie.Need-add-r Inv-loop μ-loop
 add-r c =
@@ -101,7 +106,7 @@ loop-again c =
     let a = start l .args in
     let r = l .loop .r in
     rows-step (l .loop .inv) (i .loop-test .taken)
-    (f .copy-samples .ensures
+    (f .copy-row .ensures
     ∙ part-tab (a .halves .now) (source i * a .width) (a .width) (room i)
     ∙ ap (λ (n : ℕ). tabulate n (λ (k : ℕ). getD (a .halves .now) (source i * a .width + k) 0)) (sym (rows-part (l .loop .inv) (i .loop-test .taken))))
     (λ k q. rw (digits-div r q, digits-mod r q))
@@ -125,11 +130,11 @@ interleave-spec =
     add-e
     (λ c. search needs)
     (λ c. search needs)
-    part-copy-samples-end
+    part-copy-row-end
     (λ c. search needs)
     (λ c. search needs)
-    part-copy-samples-end-2
-    copy-samples-requires
+    part-copy-row-end-2
+    copy-row-requires
     add-r
     (λ c. search needs)
     loop-again

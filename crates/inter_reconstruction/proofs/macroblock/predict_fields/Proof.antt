@@ -73,6 +73,8 @@ interleave-requires c κs =
       omega (arith, b .high),
       sym (front-length (count s) (written p) (drop (count s) (blank 256)) (both-length p)) ∙ t,
       b .count ∙ t,
+      b .some,
+      b .eights,
     )
 
 same-length : tie.Need-same-length
