@@ -1,12 +1,12 @@
--- `get` meets its contract.
+-- `predictor` meets its contract.
 -- Assumes nothing.
 use lib.IntN.{pos}
 use lib.ListN.{getD}
 use mir.Syntax.{w32}
 use Rattle.laws.proofs.Bits.{back}
 use borrow.Author.Needs.{needs}
-use Rattle.pmv.proofs.predictors.Pmv.get.Statement.{statement}
-use Rattle.pmv.proofs.predictors.Pmv.get.Tie as tie
+use Rattle.pmv.proofs.predictors.Pmv.predictor.Statement.{statement}
+use Rattle.pmv.proofs.predictors.Pmv.predictor.Tie as tie
 
 place-of-requires : tie.Need-place-of-requires
 place-of-requires c κs = search needs
@@ -21,5 +21,5 @@ returns : tie.Need-returns
 returns c =
     rw (back w32 (getD (c .before .before .args .t1 .values) (c .before .place-of .result) (pos 0)) (c .result .given), c .before .place-of .ensures .0)
 
-pub get-spec : {M : Type 1} → statement M
-get-spec = tie.close (tie.spec place-of-requires mul-result element-copy-out-result returns)
+pub predictor-spec : {M : Type 1} → statement M
+predictor-spec = tie.close (tie.spec place-of-requires mul-result element-copy-out-result returns)
