@@ -9,3 +9,10 @@ pub mod Filled
 pub mod Rows
 pub mod Parts
 pub mod Related
+pub mod Locals
+pub mod Data
+pub mod Called
+pub mod Taken
+pub mod Lent
+pub mod Shown
+pub mod Lends

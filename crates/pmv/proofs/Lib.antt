@@ -8,3 +8,4 @@ pub mod Lists
 pub mod Vectors
 pub mod Facts
 pub mod Chrominance
+pub mod Lending

@@ -13,3 +13,5 @@ pub mod vector;
 pub mod update;
 /// 7.6.3.7: vectors of the chrominance.
 pub mod chroma;
+/// The predictors where they lie: lent, and updated there.
+pub mod lent;

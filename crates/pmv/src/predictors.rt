@@ -52,7 +52,7 @@ impl Pmv {
     }
 
     /// PMV\[r\]\[s\]\[t\].
-    pub fn get(self, r: VectorIndex, s: Direction, t: Component) -> i32
+    pub fn predictor(self, r: VectorIndex, s: Direction, t: Component) -> i32
         ensures { λ v. ⌜ v ≡ predictor self r s t ⌝ }
     {
         let k = place_of(r, s, t);
@@ -85,8 +85,8 @@ impl Pmv {
         ensures { λ p. ⌜ p ≡ pairOf self r s ⌝ }
     {
         PredictorPair {
-            horizontal: self.get(r, s, Component::Horizontal),
-            vertical: self.get(r, s, Component::Vertical),
+            horizontal: self.predictor(r, s, Component::Horizontal),
+            vertical: self.predictor(r, s, Component::Vertical),
         }
     }
 

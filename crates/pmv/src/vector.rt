@@ -71,7 +71,7 @@ fn decode(
 ) -> DecodedComponent
     ensures { λ d. ⌜ d ≡ decoded pmv r s t «f_code» «motion_code» «motion_residual» (halves «mv_format» picture t) ported ⌝ }
 {
-    let prior = pmv.get(r, s, t);
+    let prior = pmv.predictor(r, s, t);
     match reconstruct_component(
         motion_code,
         motion_residual,

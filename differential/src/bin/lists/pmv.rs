@@ -4,6 +4,7 @@
 mod cases;
 
 use std::iter;
+use std::mem;
 use std::ops::RangeInclusive;
 
 use oracle::macroblock_modes::{MvFormat, PredictionType};
@@ -16,8 +17,8 @@ use oracle::vectors::{CODES, Coded, Mode, Vector};
 
 use crate::list::{ACCEPTED, List, ORIGINAL};
 use cases::{
-    Answer, ChromaScaling, Decoding, Delta, Fresh, GetAndSet, Limits, Place, Reconstruction, Reset,
-    SpatialReset, Update, VectorReconstruction, number,
+    Answer, ChromaScaling, Decoding, Delta, Fresh, GetAndSet, Lent, Limits, Place, Reconstruction,
+    Reset, SpatialReset, Update, VectorReconstruction, number,
 };
 
 const SEED: u64 = 765;
@@ -32,6 +33,12 @@ const CHROMA_FORMATS: [ChromaFormat; 3] = [
     ChromaFormat::Yuv420,
     ChromaFormat::Yuv422,
     ChromaFormat::Yuv444,
+];
+const CODING_TYPES: [PictureCodingType; 4] = [
+    PictureCodingType::Intra,
+    PictureCodingType::Predictive,
+    PictureCodingType::Bidirectional,
+    PictureCodingType::DcIntra,
 ];
 const FLAGS: [bool; 2] = [false, true];
 
@@ -137,7 +144,10 @@ it, and is 0 where refused.
 10 P0..P7 Q0..Q7
   Pmv::reset.
 11 Q0..Q7
-  Pmv::new.";
+  Pmv::new.
+14, 15, 17, 18, 19, 20
+  4, 5, 7, 8, 9 and 10 with one record that is lent from line to line. It is new before the first of
+  these lines; P0 to P7 are what it is then.";
 
 pub fn list() -> List {
     let made = format!(
@@ -154,6 +164,7 @@ The last group is wrong on purpose."
     let mut maker = Maker {
         list: List::new("vectors", "crates/replay_pmv/stdin", &made, FIELDS),
         rng: Rng::new(SEED),
+        record: Fresh::ask().after,
     };
     document_01(&mut maker);
     f_codes(&mut maker);
@@ -175,6 +186,10 @@ The last group is wrong on purpose."
     spatial_resets(&mut maker);
     records(&mut maker);
     runs(&mut maker);
+    lent_places(&mut maker);
+    lent_vectors(&mut maker);
+    lent_updates(&mut maker);
+    lent_runs(&mut maker);
     wrong_on_purpose(&mut maker);
     maker.list
 }
@@ -284,6 +299,8 @@ fn prior(sum: i32, delta: i32, halved: bool, odd: bool) -> i32 {
 struct Maker {
     list: List,
     rng: Rng,
+    /// The record that the replay lends.
+    record: Pmv,
 }
 
 impl Maker {
@@ -464,6 +481,78 @@ impl Maker {
             pmv.set(place.r, place.s, place.t, value);
         }
         pmv
+    }
+}
+
+/// What is asked of the lent record, which is then what the call leaves.
+impl Maker {
+    /// Reads a predictor, and sets it.
+    fn lend_to_set(&mut self, place: Place, value: i32) {
+        let case = GetAndSet::ask(self.record, place, value);
+        self.record = case.after;
+        self.list.case(Lent(case));
+    }
+
+    /// Decodes a component, its predictor set before; its ANSWER.
+    fn lend_to_decode(&mut self, part: Part, place: Place) -> u8 {
+        self.lend_to_set(place, part.prior);
+        let case = Decoding::ask(self.record, place, part.coded);
+        let answer = number(&case.answer);
+        self.record = case.after;
+        self.list.case(Lent(case));
+        answer
+    }
+
+    /// Reconstructs a vector; its ANSWER.
+    fn lend_to_reconstruct(
+        &mut self,
+        slot: Slot,
+        mode: Mode,
+        horizontal: Coded,
+        vertical: Coded,
+    ) -> u8 {
+        let case = vector_case(self.record, slot, mode, horizontal, vertical);
+        let answer = number(&case.answer);
+        self.record = case.after;
+        self.list.case(Lent(case));
+        answer
+    }
+
+    fn lend_to_update(&mut self, context: PmvUpdateContext) {
+        let case = Update::ask(self.record, context);
+        self.record = case.after;
+        self.list.case(Lent(case));
+    }
+
+    fn lend_to_spatial_reset(&mut self, coding_type: PictureCodingType, class: u8) {
+        let case = SpatialReset::ask(self.record, coding_type, class);
+        self.record = case.after;
+        self.list.case(Lent(case));
+    }
+
+    fn lend_to_reset(&mut self) {
+        let case = Reset::ask(self.record);
+        self.record = case.after;
+        self.list.case(Lent(case));
+    }
+
+    /// Sets predictors until all eight differ and none is 0: whatever is copied, kept or zeroed
+    /// shows.
+    fn lend_until_distinct(&mut self) {
+        let at = |pmv: &Pmv, Place { r, s, t }| pmv.get(r, s, t);
+        for place in all_places() {
+            let mut taken: Vec<i32> = all_places()
+                .filter(|other| *other != place)
+                .map(|other| at(&self.record, other))
+                .collect();
+            taken.push(0);
+            if taken.contains(&at(&self.record, place)) {
+                let value = iter::repeat_with(|| self.draw_number(99))
+                    .find(|value| !taken.contains(value))
+                    .expect("the draws do not end");
+                self.lend_to_set(place, value);
+            }
+        }
     }
 }
 
@@ -1006,13 +1095,6 @@ fn draw_alike(maker: &mut Maker) -> Pmv {
 }
 
 fn spatial_resets(maker: &mut Maker) {
-    const CODING_TYPES: [PictureCodingType; 4] = [
-        PictureCodingType::Intra,
-        PictureCodingType::Predictive,
-        PictureCodingType::Bidirectional,
-        PictureCodingType::DcIntra,
-    ];
-
     maker
         .list
         .group("r. spatial resets by every weight class in every type of picture");
@@ -1056,40 +1138,54 @@ also where one predictor alone is not 0; a new record",
 
 fn runs(maker: &mut Maker) {
     const RUNS: usize = 15;
-    const MACROBLOCKS: usize = 12;
 
     maker.list.group(
         "t. runs from new predictors, as macroblocks follow in a slice: the vectors of each, then the
 update, each on what the case before left",
     );
-    let accepted: Vec<PmvUpdateContext> = contexts()
-        .into_iter()
-        .filter(|context| Update::ask(Pmv::new(), *context).answer.is_ok())
-        .collect();
     for run in 0..RUNS {
-        let structure = STRUCTURES[run % STRUCTURES.len()];
-        let contexts: Vec<PmvUpdateContext> = accepted
-            .iter()
-            .filter(|context| context.picture_structure == structure)
-            .copied()
-            .collect();
-        let f_codes = SLOTS.map(|_| maker.draw_f_code());
         let mut pmv = Fresh::ask().after;
-        for _ in 0..MACROBLOCKS {
-            let context = maker.rng.pick(&contexts);
-            for slot in coded_slots(context) {
-                let [horizontal, vertical] = COMPONENTS
-                    .map(|t| draw_as_coded(maker, f_codes[2 * slot.s.index() + t.index()]));
-                let mode = mode(format(context), structure);
+        for macroblock in draw_slice(maker, STRUCTURES[run % STRUCTURES.len()]) {
+            for (slot, mode, [horizontal, vertical]) in macroblock.vectors {
                 let case = vector_case(pmv, slot, mode, horizontal, vertical);
                 pmv = case.after;
                 maker.list.case(case);
             }
-            let case = Update::ask(pmv, context);
+            let case = Update::ask(pmv, macroblock.context);
             pmv = case.after;
             maker.list.case(case);
         }
     }
+}
+
+/// What a macroblock asks of the predictors: its vectors, then the update.
+struct Macroblock {
+    vectors: Vec<(Slot, Mode, [Coded; 2])>,
+    context: PmvUpdateContext,
+}
+
+/// Draws the macroblocks of a slice, each as the tables have it.
+fn draw_slice(maker: &mut Maker, structure: PictureStructure) -> Vec<Macroblock> {
+    const MACROBLOCKS: usize = 12;
+
+    let accepted = |context: &PmvUpdateContext| {
+        context.picture_structure == structure && Update::ask(Pmv::new(), *context).answer.is_ok()
+    };
+    let contexts: Vec<PmvUpdateContext> = contexts().into_iter().filter(accepted).collect();
+    let f_codes = SLOTS.map(|_| maker.draw_f_code());
+    let mut draw = || {
+        let context = maker.rng.pick(&contexts);
+        let coded = |slot: Slot| {
+            let components =
+                COMPONENTS.map(|t| draw_as_coded(maker, f_codes[2 * slot.s.index() + t.index()]));
+            (slot, mode(format(context), structure), components)
+        };
+        Macroblock {
+            vectors: coded_slots(context).into_iter().map(coded).collect(),
+            context,
+        }
+    };
+    iter::repeat_with(&mut draw).take(MACROBLOCKS).collect()
 }
 
 /// The vectors that a macroblock has.
@@ -1127,9 +1223,103 @@ fn draw_as_coded(maker: &mut Maker, f_code: u8) -> Coded {
     coded(code, present.then_some(residual), f_code)
 }
 
+fn lent_places(maker: &mut Maker) {
+    maker.list.group(
+        "u. the lent record, new at first: each predictor read and set, up to the ends of i32",
+    );
+    for value in [1, -1, i32::MIN, i32::MAX, 0] {
+        for place in all_places() {
+            maker.lend_to_set(place, value);
+        }
+    }
+    for reach in [ANY, 8192] {
+        for place in all_places() {
+            let value = maker.draw_number(reach);
+            maker.lend_to_set(place, value);
+        }
+    }
+}
+
+fn lent_vectors(maker: &mut Maker) {
+    maker.list.group(
+        "v. components decoded with the lent record at each place, accepted and refused with each number;
+vectors of each index and direction, accepted in every format and structure, and in a drawn one
+with the horizontal part refused with each number, the vertical part, and both. Their predictors
+are set before",
+    );
+    for place in all_places() {
+        for number in iter::once(ACCEPTED).chain(REFUSALS) {
+            let part = maker.draw_part(number, false);
+            let answer = maker.lend_to_decode(part, place);
+            assert_eq!(answer, number, "drawn for it");
+        }
+    }
+    for slot in SLOTS {
+        let accepted = MODES.map(|mode| (mode, ACCEPTED, ACCEPTED));
+        let refused = REFUSALS.flat_map(|number| {
+            let other = REFUSALS.end() + 1 - number;
+            [(number, ACCEPTED), (ACCEPTED, number), (number, other)]
+        });
+        let refused: Vec<_> = refused
+            .map(|(first, second)| (maker.rng.pick(&MODES), first, second))
+            .collect();
+        for (mode, first, second) in accepted.into_iter().chain(refused) {
+            let halved = is_halved((mode, Component::Vertical));
+            let horizontal = maker.draw_part(first, false);
+            let vertical = maker.draw_part(second, halved);
+            maker.lend_to_set(slot.place(Component::Horizontal), horizontal.prior);
+            maker.lend_to_set(slot.place(Component::Vertical), vertical.prior);
+            let answer = maker.lend_to_reconstruct(slot, mode, horizontal.coded, vertical.coded);
+            let expected = if first == ACCEPTED { second } else { first };
+            assert_eq!(answer, expected, "drawn for it");
+        }
+    }
+}
+
+fn lent_updates(maker: &mut Maker) {
+    const CLASSES: [u8; 6] = [0, 1, 3, 4, 5, 255];
+    const RESETS: usize = 3;
+
+    maker.list.group(
+        "w. the lent record updated in every context, and reset: by weight classes in every type of
+picture, and at once. Where two predictors are equal or one is 0, it is set before",
+    );
+    for context in contexts() {
+        maker.lend_until_distinct();
+        maker.lend_to_update(context);
+    }
+    for class in CLASSES {
+        for coding_type in CODING_TYPES {
+            maker.lend_until_distinct();
+            maker.lend_to_spatial_reset(coding_type, class);
+        }
+    }
+    for _ in 0..RESETS {
+        maker.lend_until_distinct();
+        maker.lend_to_reset();
+    }
+}
+
+fn lent_runs(maker: &mut Maker) {
+    const RUNS: usize = 9;
+
+    maker
+        .list
+        .group("x. runs as in t with the lent record, which each begins with a reset");
+    for run in 0..RUNS {
+        maker.lend_to_reset();
+        for macroblock in draw_slice(maker, STRUCTURES[run % STRUCTURES.len()]) {
+            for (slot, mode, [horizontal, vertical]) in macroblock.vectors {
+                maker.lend_to_reconstruct(slot, mode, horizontal, vertical);
+            }
+            maker.lend_to_update(macroblock.context);
+        }
+    }
+}
+
 fn wrong_on_purpose(maker: &mut Maker) {
     maker.list.group(
-        "u. wrong on purpose, so that the expected output shows that the comparison can fail. A case of
+        "y. wrong on purpose, so that the expected output shows that the comparison can fail. A case of
 each kind: a delta without its sign; high as 16f; prior 48 reduced modulo 32; the new predictor
 in the other component's place; the horizontal predictor restored after a vertical refusal;
 chroma floored; second copied to first; a reset in an I picture; the other component read; a
@@ -1137,7 +1327,10 @@ predictor that a reset leaves; a new predictor that is not 0. Wrong numbers: 3 w
 right; 1 for an f_code that is taken, and 2 where 1 is right; 6 where 5 is right, also decoded; 4
 for a component that is accepted; the vertical part's 5 where both are refused; 8 where 7 is
 right. Off by one: every other value of a call, a predictor after it, and each of the eight after
-a reset",
+a reset. Of the lent record: what it is before a call; a predictor read, and one set; 4 for a
+component that is accepted; the horizontal predictor restored; a delta; the record unchanged by
+an update, and the outcome of another context; a reset that is not made, and one that leaves a
+predictor",
     );
     let mut signless = Delta::ask(coded(-3, Some(1), 2));
     signless.answer = Ok([6]);
@@ -1211,6 +1404,7 @@ a reset",
 
     wrong_numbers(maker, context);
     wrong_values(maker, context);
+    wrong_lent(maker, context);
 }
 
 fn wrong_numbers(maker: &mut Maker, context: PmvUpdateContext) {
@@ -1314,6 +1508,64 @@ fn wrong_values(maker: &mut Maker, context: PmvUpdateContext) {
         reset.after.set(r, s, t, 1);
         maker.list.case(reset);
     }
+}
+
+/// The record goes on as the original leaves it, whatever the line says.
+fn wrong_lent(maker: &mut Maker, context: PmvUpdateContext) {
+    let slot = slot(VectorIndex::Second, Direction::Backward);
+    let [horizontal, vertical] = COMPONENTS.map(|t| slot.place(t));
+    let Place { r, s, t } = vertical;
+    let off = |pmv: &mut Pmv| pmv.set(r, s, t, pmv.get(r, s, t) + 1);
+    maker.lend_until_distinct();
+    maker.lend_to_set(horizontal, 3);
+
+    let mut before = GetAndSet::ask(maker.record, vertical, 48);
+    maker.record = before.after;
+    off(&mut before.before);
+    maker.list.case(Lent(before));
+
+    let mut got = GetAndSet::ask(maker.record, vertical, 48);
+    got.got = 3;
+    maker.list.case(Lent(got));
+
+    let mut set = GetAndSet::ask(maker.record, vertical, 48);
+    off(&mut set.after);
+    maker.list.case(Lent(set));
+
+    let mut number = Decoding::ask(maker.record, horizontal, coded(0, None, 1));
+    number.answer = Err(4);
+    maker.list.case(Lent(number));
+
+    let [five, zero] = [coded(5, None, 1), coded(0, None, 1)];
+    let mut restored = vector_case(maker.record, slot, PLAIN, five, zero);
+    mem::swap(&mut maker.record, &mut restored.after);
+    maker.list.case(Lent(restored));
+
+    let mut vector = vector_case(maker.record, slot, HALVING, zero, coded(-9, None, 1));
+    maker.record = vector.after;
+    raise(&mut vector.answer, 6);
+    maker.list.case(Lent(vector));
+
+    let mut update = Update::ask(maker.record, context);
+    mem::swap(&mut maker.record, &mut update.after);
+    maker.list.case(Lent(update));
+
+    maker.lend_until_distinct();
+    let mut outcome = Update::ask(maker.record, context);
+    maker.record = outcome.after;
+    raise(&mut outcome.answer, 0);
+    maker.list.case(Lent(outcome));
+
+    let mut class = SpatialReset::ask(maker.record, PictureCodingType::Predictive, 3);
+    class.applied = true;
+    maker.list.case(Lent(class));
+
+    maker.lend_until_distinct();
+    let mut reset = Reset::ask(maker.record);
+    let kept = maker.record.get(r, s, t);
+    maker.record = reset.after;
+    reset.after.set(r, s, t, kept);
+    maker.list.case(Lent(reset));
 }
 
 fn raise<const N: usize>(answer: &mut Answer<N>, value: usize) {

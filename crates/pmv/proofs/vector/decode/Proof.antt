@@ -21,14 +21,14 @@ component-is : (c : tie.After-reconstruct-component)
     ≡ reconstructedAnswer (partRefusal (a .pmv) (a .r) (a .s) (a .t) (a .f-code) (a .motion-code) (a .motion-residual) h ported)
     (part (a .pmv) (a .r) (a .s) (a .t) (a .f-code) (a .motion-code) (a .motion-residual) h)
 component-is c =
-    let g = c .before .get in
+    let g = c .before .predictor in
     rw (toZ-ofZ (c .before .before .fits .motion-code), back w32 (g .result) (g .ok), g .ensures) at (c .reconstruct-component .ensures .0)
 
 new-fits : (c : tie.After-struct-told) → SFits w32 (c .before .before .c .given .0 .0 .«new_pmv»)
 new-fits c = search needs
 
-get-requires : tie.Need-get-requires
-get-requires c κs = search needs
+predictor-requires : tie.Need-predictor-requires
+predictor-requires c κs = search needs
 
 reconstruct-component-requires : tie.Need-reconstruct-component-requires
 reconstruct-component-requires c κs = search needs
@@ -68,7 +68,7 @@ pub decode-spec : {M : Type 1} → statement M
 decode-spec =
     tie.close
     (tie.spec
-    get-requires
+    predictor-requires
     reconstruct-component-requires
     enum-known-number
     enum-known-c

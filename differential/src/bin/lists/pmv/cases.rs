@@ -158,6 +158,18 @@ impl Display for Place {
     }
 }
 
+/// A line of a kind and ten: the same, of the record that the replay lends from line to line.
+pub struct Lent<T>(pub T);
+
+impl<T: Display> Display for Lent<T> {
+    fn fmt(&self, f: &mut fmt::Formatter<'_>) -> fmt::Result {
+        let line = self.0.to_string();
+        let (kind, fields) = line.split_once(' ').expect("a line has fields");
+        let kind: u8 = kind.parse().expect("a line begins with its kind");
+        write!(f, "{} {fields}", kind + 10)
+    }
+}
+
 /// A line of kind 4.
 pub struct Decoding {
     before: Pmv,
@@ -372,7 +384,7 @@ impl Display for SpatialReset {
 
 /// A line of kind 9.
 pub struct GetAndSet {
-    before: Pmv,
+    pub before: Pmv,
     place: Place,
     value: i32,
     pub got: i32,

@@ -6,17 +6,17 @@ use borrow.Author.Needs.{needs}
 use Rattle.pmv.proofs.predictors.Pmv.pair.Statement.{statement}
 use Rattle.pmv.proofs.predictors.Pmv.pair.Tie as tie
 
-get-requires : tie.Need-get-requires
-get-requires c κs = search needs
+predictor-requires : tie.Need-predictor-requires
+predictor-requires c κs = search needs
 
-get-requires-2 : tie.Need-get-requires-2
-get-requires-2 c κs = search needs
+predictor-requires-2 : tie.Need-predictor-requires-2
+predictor-requires-2 c κs = search needs
 
 returns : tie.Need-returns
 returns c =
-    let g = c .before .get in
-    let k = c .get2 in
+    let g = c .before .predictor in
+    let k = c .predictor2 in
     rw (back w32 (g .result) (g .ok), back w32 (k .result) (k .ok), g .ensures, k .ensures)
 
 pub pair-spec : {M : Type 1} → statement M
-pair-spec = tie.close (tie.spec get-requires get-requires-2 returns)
+pair-spec = tie.close (tie.spec predictor-requires predictor-requires-2 returns)
