@@ -1,7 +1,8 @@
 # make                 build the static library, proved, and the two C programs over it; run them and see that they
 #                      print what they should; the second makes a picture, build/plate.pgm
 # make example-check   the same with each of gcc and clang, as C and as C++, and under valgrind, where they are installed;
-#                      and see that the header declares what the library exports, and that docs/plate.png is the picture
+#                      and see that the header declares what the library exports, that the library has no other global
+#                      symbol, that the header compiles by each standard, and that docs/plate.png is the picture
 # make picture         make docs/plate.png anew; needs python3
 # make demonstration   build the Rattle program that shows the layers one by one, proved, and run it
 # make plot            draw docs/drift.svg anew, from what the program run_drift prints
@@ -25,6 +26,9 @@ LIBRARY = target/staticlib/libfozdrik.a
 EXAMPLES = example moving_picture
 PICTURE = build/plate.pgm
 C_FLAGS = -O2 -Wall -Wextra -Wpedantic -Werror -Iinclude
+STRICT_FLAGS = $(C_FLAGS) -Wconversion -Wshadow
+STANDARDS = $(foreach standard,c99 c11 c17,'gcc -std=$(standard)' 'clang -std=$(standard)') \
+	$(foreach standard,c++11 c++17,'g++ -std=$(standard) -x c++' 'clang++ -std=$(standard) -x c++')
 
 # what a library is made of, by its crates, since rt staticlib proves its last crate anew each time it is asked
 sources = crates.txt $(shell find $(addprefix crates/,$(1)) -name '*.rt' -o -name '*.antt')
@@ -32,7 +36,8 @@ sources = crates.txt $(shell find $(addprefix crates/,$(1)) -name '*.rt' -o -nam
 # two commands of rt in one folder would be in each other's way
 .NOTPARALLEL:
 
-.PHONY: all declarations example-check picture demonstration plot test differential lists-check compare lists bench bench-counts clean
+.PHONY: all declarations symbols header-test example-check picture demonstration \
+	plot test differential lists-check compare lists bench bench-counts clean
 
 all: $(LIBRARY)
 	@mkdir -p build
@@ -56,9 +61,31 @@ declarations:
 	@awk -f examples/c/declarations.awk include/fozdrik.h | sort >build/declared.txt
 	@diff build/exported.txt build/declared.txt && echo "the header declares what the library exports"
 
-example-check: declarations $(LIBRARY)
+symbols: declarations $(LIBRARY)
+	@cut -d ' ' -f 1 build/declared.txt | sort -u >build/calls.txt
+	@nm -g --defined-only $(LIBRARY) | awk 'NF == 3 { print $$3 }' | sort | diff build/calls.txt - && \
+		echo "the library's global symbols are the calls that the header declares, and no others"
 	@nm -u $(LIBRARY) | awk '$$1 == "U" && $$2 != "memcpy" && $$2 != "memset" { print "the library needs " $$2; bad = 1 } END { exit bad }'
 	@echo "the library needs nothing but memcpy and memset"
+	@objdump -h $(LIBRARY) | awk '/ALLOC/ && !/READONLY/ && size !~ /^0*$$/ { print "the library has data that can be written: " name; bad = 1 } \
+		{ name = $$2; size = $$3 } END { exit bad }'
+	@echo "the library has no data that can be written"
+
+# every name of the header has to occur in its test, but for its guard
+header-test: $(LIBRARY)
+	@mkdir -p build
+	@sed 's,//.*,,' include/fozdrik.h | grep -oE '(FOZDRIK|fozdrik)_[A-Za-z0-9_]+' | sort -u | grep -vx FOZDRIK_H | \
+		while read -r name; do grep -qw "$$name" include/tests/header.c || { echo "include/tests/header.c lacks $$name"; exit 1; }; done
+	@for compiler in $(STANDARDS); do \
+		command -v $${compiler%% *} >/dev/null || { echo "$${compiler%% *} is not installed"; continue; }; \
+		for unit in header second; do \
+			$$compiler $(STRICT_FLAGS) -c include/tests/$$unit.c -o build/$$unit.o || exit 1; \
+		done; \
+		$${compiler%% *} build/header.o build/second.o $(LIBRARY) -o build/header && build/header || exit 1; \
+		echo "$$compiler: no warning about the header, and all holds"; \
+	done
+
+example-check: symbols header-test
 	@for compiler in 'gcc -std=c99' 'clang -std=c99' 'g++ -std=c++11 -x c++' 'clang++ -std=c++11 -x c++'; do \
 		command -v $${compiler%% *} >/dev/null || { echo "$${compiler%% *} is not installed"; continue; }; \
 		for name in $(EXAMPLES); do \
