@@ -29,7 +29,7 @@
 #define VALGRIND_COUNT_ERRORS 0
 #endif
 
-/* A call may take so many seconds. */
+/* So many seconds from one look to the next; a case that is the same at two looks does not return. */
 #ifndef PATIENCE
 #define PATIENCE 20
 #endif
