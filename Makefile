@@ -1,7 +1,15 @@
 # make                 build the static library, proved, and the two C programs over it; run them and see that they
 #                      print what they should; the second makes a picture, build/plate.pgm
 # make example-check   the same with each of gcc and clang, as C and as C++, and under valgrind, where they are installed;
-#                      and see that the header declares what the library exports, and that docs/plate.png is the picture
+#                      and see that the header declares what the library exports, that the library has no other global
+#                      symbol, that the header compiles by each standard, and that docs/plate.png is the picture
+# make sanitize        the programs, the header's test and the fuzzer, compiled with the address and undefined behaviour
+#                      sanitizers of gcc and clang, where they are installed
+# make fuzz            call the library with hostile numbers and lengths, and check all that it gives: COUNT=N random
+#                      cases from SEED=N, a hundredth as many under valgrind, and SECONDS=N of libFuzzer, where they are
+#                      installed; CASE=FILE for one case again
+# make fuzz-check      see that the fuzzer notices what is made wrong
+# make fuzz-coverage   print how many of the library's instructions the fuzzer's cases run, by valgrind and objdump
 # make picture         make docs/plate.png anew; needs python3
 # make demonstration   build the Rattle program that shows the layers one by one, proved, and run it
 # make plot            draw docs/drift.svg anew, from what the program run_drift prints
@@ -25,6 +33,9 @@ LIBRARY = target/staticlib/libfozdrik.a
 EXAMPLES = example moving_picture
 PICTURE = build/plate.pgm
 C_FLAGS = -O2 -Wall -Wextra -Wpedantic -Werror -Iinclude
+STRICT_FLAGS = $(C_FLAGS) -Wconversion -Wshadow
+STANDARDS = $(foreach standard,c99 c11 c17,'gcc -std=$(standard)' 'clang -std=$(standard)') \
+	$(foreach standard,c++11 c++17,'g++ -std=$(standard) -x c++' 'clang++ -std=$(standard) -x c++')
 
 # what a library is made of, by its crates, since rt staticlib proves its last crate anew each time it is asked
 sources = crates.txt $(shell find $(addprefix crates/,$(1)) -name '*.rt' -o -name '*.antt')
@@ -32,7 +43,8 @@ sources = crates.txt $(shell find $(addprefix crates/,$(1)) -name '*.rt' -o -nam
 # two commands of rt in one folder would be in each other's way
 .NOTPARALLEL:
 
-.PHONY: all declarations example-check picture demonstration plot test differential lists-check compare lists bench bench-counts clean
+.PHONY: all declarations symbols header-test example-check sanitize fuzz fuzz-check fuzz-coverage picture demonstration \
+	plot test differential lists-check compare lists bench bench-counts clean
 
 all: $(LIBRARY)
 	@mkdir -p build
@@ -56,9 +68,31 @@ declarations:
 	@awk -f examples/c/declarations.awk include/fozdrik.h | sort >build/declared.txt
 	@diff build/exported.txt build/declared.txt && echo "the header declares what the library exports"
 
-example-check: declarations $(LIBRARY)
+symbols: declarations $(LIBRARY)
+	@cut -d ' ' -f 1 build/declared.txt | sort -u >build/calls.txt
+	@nm -g --defined-only $(LIBRARY) | awk 'NF == 3 { print $$3 }' | sort | diff build/calls.txt - && \
+		echo "the library's global symbols are the calls that the header declares, and no others"
 	@nm -u $(LIBRARY) | awk '$$1 == "U" && $$2 != "memcpy" && $$2 != "memset" { print "the library needs " $$2; bad = 1 } END { exit bad }'
 	@echo "the library needs nothing but memcpy and memset"
+	@objdump -h $(LIBRARY) | awk '/ALLOC/ && !/READONLY/ && size !~ /^0*$$/ { print "the library has data that can be written: " name; bad = 1 } \
+		{ name = $$2; size = $$3 } END { exit bad }'
+	@echo "the library has no data that can be written"
+
+# every name of the header has to occur in its test, but for its guard
+header-test: $(LIBRARY)
+	@mkdir -p build
+	@sed 's,//.*,,' include/fozdrik.h | grep -oE '(FOZDRIK|fozdrik)_[A-Za-z0-9_]+' | sort -u | grep -vx FOZDRIK_H | \
+		while read -r name; do grep -qw "$$name" include/tests/header.c || { echo "include/tests/header.c lacks $$name"; exit 1; }; done
+	@for compiler in $(STANDARDS); do \
+		command -v $${compiler%% *} >/dev/null || { echo "$${compiler%% *} is not installed"; continue; }; \
+		for unit in header second; do \
+			$$compiler $(STRICT_FLAGS) -c include/tests/$$unit.c -o build/$$unit.o || exit 1; \
+		done; \
+		$${compiler%% *} build/header.o build/second.o $(LIBRARY) -o build/header && build/header || exit 1; \
+		echo "$$compiler: no warning about the header, and all holds"; \
+	done
+
+example-check: symbols header-test
 	@for compiler in 'gcc -std=c99' 'clang -std=c99' 'g++ -std=c++11 -x c++' 'clang++ -std=c++11 -x c++'; do \
 		command -v $${compiler%% *} >/dev/null || { echo "$${compiler%% *} is not installed"; continue; }; \
 		for name in $(EXAMPLES); do \
@@ -77,6 +111,104 @@ example-check: declarations $(LIBRARY)
 		done
 	@command -v python3 >/dev/null || { echo "python3 is not installed"; exit 0; }; \
 		python3 examples/c/png.py --check $(PICTURE) docs/plate.png && echo "docs/plate.png shows $(PICTURE)"
+
+# ---- the C boundary with hostile arguments
+
+FUZZ = build/fuzz
+FUZZED = $(addprefix fuzz/,case.c expected.c fuzz.c lent.c wrong.c)
+FUZZ_FILES = $(wildcard fuzz/*.[ch]) include/fozdrik.h $(LIBRARY)
+FUZZ_SEED = $(or $(SEED),1)
+FUZZ_COUNT = $(or $(COUNT),1000000)
+FUZZ_SECONDS = $(or $(SECONDS),30)
+SANITIZE_FLAGS = -g -fsanitize=address,undefined -fno-sanitize-recover=all
+# so that a report ends the program with a signal, at which the fuzzer prints its case
+SANITIZER = ASAN_OPTIONS=abort_on_error=1 UBSAN_OPTIONS=abort_on_error=1:print_stacktrace=1
+MEMCHECK = valgrind -q --error-exitcode=1 --leak-check=full
+
+$(FUZZ)/driver: $(FUZZ_FILES)
+	@mkdir -p $(FUZZ)
+	@$(CC) -std=c99 -g $(STRICT_FLAGS) $(FUZZED) fuzz/driver.c $(LIBRARY) -o $@
+
+ifdef CASE
+fuzz: $(FUZZ)/driver
+	@$(FUZZ)/driver --case $(CASE)
+	@command -v valgrind >/dev/null || { echo "valgrind is not installed"; exit 0; }; \
+		$(MEMCHECK) $(FUZZ)/driver --case $(CASE) >$(FUZZ)/valgrind.txt 2>&1 || { cat $(FUZZ)/valgrind.txt; exit 1; }; \
+		echo "no finding under valgrind"
+else
+fuzz: $(FUZZ)/driver
+	@$(FUZZ)/driver --seed $(FUZZ_SEED) --count $(FUZZ_COUNT) --keep $(FUZZ)/case.txt
+	@command -v valgrind >/dev/null || { echo "valgrind is not installed"; exit 0; }; \
+		echo "under valgrind:"; \
+		$(MEMCHECK) $(FUZZ)/driver --seed $(FUZZ_SEED) --count $$(($(FUZZ_COUNT) / 100)) --keep $(FUZZ)/case.txt >$(FUZZ)/valgrind.txt; \
+		status=$$?; tail -n 1 $(FUZZ)/valgrind.txt; exit $$status
+	@mkdir -p $(FUZZ)/corpus
+	@echo 'int LLVMFuzzerTestOneInput(void); int LLVMFuzzerTestOneInput(void) { return 0; }' >$(FUZZ)/probe.c
+	@clang $(SANITIZE_FLAGS) -fsanitize=fuzzer $(FUZZ)/probe.c -o $(FUZZ)/probe 2>/dev/null || { echo "clang's libFuzzer is not installed"; exit 0; }; \
+		clang -std=c99 $(STRICT_FLAGS) $(SANITIZE_FLAGS) -fsanitize=fuzzer $(FUZZED) $(LIBRARY) -o $(FUZZ)/libfuzzer || exit 1; \
+		echo "libFuzzer, $(FUZZ_SECONDS) seconds:"; \
+		rm -f $(FUZZ)/crash-* $(FUZZ)/timeout-* $(FUZZ)/oom-*; \
+		$(FUZZ)/libfuzzer -seed=$(FUZZ_SEED) -max_total_time=$(FUZZ_SECONDS) -max_len=256 -timeout=20 -print_final_stats=1 \
+			-artifact_prefix=$(FUZZ)/ $(FUZZ)/corpus >$(FUZZ)/libfuzzer.txt 2>&1 && { \
+			awk '/ cov: / { line = $$0 } /^Done / { print } END { sub(/ *corp:.*/, "", line); print line }' $(FUZZ)/libfuzzer.txt; \
+			exit 0; }; \
+		grep -A 12 -E '^finding|ERROR|runtime error' $(FUZZ)/libfuzzer.txt; \
+		for case in $(FUZZ)/crash-* $(FUZZ)/timeout-* $(FUZZ)/oom-*; do \
+			test -f $$case || continue; \
+			echo "the case, which is kept in $$case:"; od -An -v -tx1 $$case; \
+		done; exit 1
+endif
+
+# DOES_NOT_RETURN waits for PATIENCE. The last is for valgrind.
+fuzz-check: $(FUZZ_FILES)
+	@mkdir -p $(FUZZ)
+	@awk '/^    [A-Z][A-Z0-9_]*( = 1)?,?$$/ { sub(/,/, ""); print ++n, $$1 }' fuzz/wrong.h >$(FUZZ)/kinds.txt
+	@last=$$(wc -l <$(FUZZ)/kinds.txt); \
+	while read -r number name; do \
+		$(CC) -std=c99 $(STRICT_FLAGS:-O2=-O1) -DPATIENCE=1 -DWRONG=$$number $(FUZZED) fuzz/driver.c $(LIBRARY) -o $(FUZZ)/wrong || exit 1; \
+		tool=; cases=300000; \
+		if test $$number = $$last; then \
+			command -v valgrind >/dev/null || { echo "$$name: valgrind is not installed"; continue; }; \
+			$(FUZZ)/wrong --count 10000 >/dev/null || { echo "$$name: noticed without valgrind"; exit 1; }; \
+			tool='$(MEMCHECK)'; cases=10000; \
+		fi; \
+		rm -f $(FUZZ)/wrong.case; \
+		$$tool $(FUZZ)/wrong --count $$cases --keep $(FUZZ)/wrong.case >/dev/null 2>$(FUZZ)/wrong.txt && { echo "$$name: not noticed"; exit 1; }; \
+		test -f $(FUZZ)/wrong.case || { echo "$$name: ended without a case"; cat $(FUZZ)/wrong.txt; exit 1; }; \
+		$$tool $(FUZZ)/wrong --case $(FUZZ)/wrong.case >/dev/null 2>&1 && { echo "$$name: not noticed in the case again"; exit 1; }; \
+		echo "$$name: $$(grep '^finding' $(FUZZ)/wrong.txt)"; \
+	done <$(FUZZ)/kinds.txt
+	@echo "all that was made wrong was noticed, and again when the case was given again"
+
+fuzz-coverage: $(FUZZ_FILES)
+	@command -v valgrind >/dev/null || { echo "valgrind is not installed, and nothing is counted"; exit 1; }
+	@mkdir -p $(FUZZ)
+	@$(CC) -std=c99 -no-pie $(STRICT_FLAGS) $(FUZZED) fuzz/driver.c $(LIBRARY) -o $(FUZZ)/counted
+	@valgrind -q --tool=callgrind --dump-instr=yes --compress-pos=no --callgrind-out-file=$(FUZZ)/profile \
+		$(FUZZ)/counted --seed $(FUZZ_SEED) --count $(or $(COUNT),20000) >/dev/null
+	@nm $(LIBRARY) | awk 'NF == 3 && tolower($$2) == "t" { print $$3 }' >$(FUZZ)/functions.txt
+	@objdump -d --no-show-raw-insn $(FUZZ)/counted >$(FUZZ)/instructions.txt
+	@awk -f fuzz/coverage.awk $(FUZZ)/functions.txt $(FUZZ)/profile $(FUZZ)/instructions.txt
+
+sanitize: $(FUZZ_FILES)
+	@mkdir -p $(FUZZ)
+	@echo 'int main(void) { return 0; }' >$(FUZZ)/probe.c
+	@for compiler in gcc clang; do \
+		$$compiler $(SANITIZE_FLAGS) $(FUZZ)/probe.c -o $(FUZZ)/probe 2>/dev/null || { echo "$$compiler with its sanitizers is not installed"; continue; }; \
+		for name in $(EXAMPLES); do \
+			$$compiler -std=c99 $(C_FLAGS) $(SANITIZE_FLAGS) examples/c/$$name.c $(LIBRARY) -o build/$$name || exit 1; \
+			$(SANITIZER) build/$$name $(PICTURE) >build/$$name.txt || exit 1; \
+			diff examples/c/expected_$$name.txt build/$$name.txt || exit 1; \
+			echo "$$compiler with sanitizers: no error in $$name"; \
+		done || exit 1; \
+		$$compiler -std=c99 $(STRICT_FLAGS) $(SANITIZE_FLAGS) include/tests/*.c $(LIBRARY) -o build/header || exit 1; \
+		$(SANITIZER) build/header || exit 1; \
+		echo "$$compiler with sanitizers: no error in the header's test"; \
+		$$compiler -std=c99 $(STRICT_FLAGS) $(SANITIZE_FLAGS) $(FUZZED) fuzz/driver.c $(LIBRARY) -o $(FUZZ)/sanitized || exit 1; \
+		$(SANITIZER) $(FUZZ)/sanitized --seed $(FUZZ_SEED) --count $$(($(FUZZ_COUNT) / 5)) --keep $(FUZZ)/case.txt >$(FUZZ)/sanitized.txt; \
+		status=$$?; tail -n 1 $(FUZZ)/sanitized.txt; test $$status = 0 || exit 1; \
+		echo "$$compiler with sanitizers: no error in the fuzzer"; \
+	done
 
 # by way of make, which sees that the picture is as it should be
 picture: all
