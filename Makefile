@@ -129,6 +129,11 @@ $(FUZZ)/driver: $(FUZZ_FILES)
 	@mkdir -p $(FUZZ)
 	@$(CC) -std=c99 -g $(STRICT_FLAGS) $(FUZZED) fuzz/driver.c $(LIBRARY) -o $@
 
+# a program that only libFuzzer makes whole
+$(FUZZ)/libfuzzer_probe.c:
+	@mkdir -p $(FUZZ)
+	@echo 'int LLVMFuzzerTestOneInput(void); int LLVMFuzzerTestOneInput(void) { return 0; }' >$@
+
 ifdef CASE
 fuzz: $(FUZZ)/driver
 	@$(FUZZ)/driver --case $(CASE)
@@ -136,15 +141,14 @@ fuzz: $(FUZZ)/driver
 		$(MEMCHECK) $(FUZZ)/driver --case $(CASE) >$(FUZZ)/valgrind.txt 2>&1 || { cat $(FUZZ)/valgrind.txt; exit 1; }; \
 		echo "no finding under valgrind"
 else
-fuzz: $(FUZZ)/driver
+fuzz: $(FUZZ)/driver $(FUZZ)/libfuzzer_probe.c
 	@$(FUZZ)/driver --seed $(FUZZ_SEED) --count $(FUZZ_COUNT) --keep $(FUZZ)/case.txt
 	@command -v valgrind >/dev/null || { echo "valgrind is not installed"; exit 0; }; \
 		echo "under valgrind:"; \
 		$(MEMCHECK) $(FUZZ)/driver --seed $(FUZZ_SEED) --count $$(($(FUZZ_COUNT) / 100)) --keep $(FUZZ)/case.txt >$(FUZZ)/valgrind.txt; \
 		status=$$?; tail -n 1 $(FUZZ)/valgrind.txt; exit $$status
 	@mkdir -p $(FUZZ)/corpus
-	@echo 'int LLVMFuzzerTestOneInput(void); int LLVMFuzzerTestOneInput(void) { return 0; }' >$(FUZZ)/probe.c
-	@clang $(SANITIZE_FLAGS) -fsanitize=fuzzer $(FUZZ)/probe.c -o $(FUZZ)/probe 2>/dev/null || { echo "clang's libFuzzer is not installed"; exit 0; }; \
+	@clang $(SANITIZE_FLAGS) -fsanitize=fuzzer $(FUZZ)/libfuzzer_probe.c -o $(FUZZ)/probe 2>/dev/null || { echo "clang's libFuzzer is not installed"; exit 0; }; \
 		clang -std=c99 $(STRICT_FLAGS) $(SANITIZE_FLAGS) -fsanitize=fuzzer $(FUZZED) $(LIBRARY) -o $(FUZZ)/libfuzzer || exit 1; \
 		echo "libFuzzer, $(FUZZ_SECONDS) seconds:"; \
 		rm -f $(FUZZ)/crash-* $(FUZZ)/timeout-* $(FUZZ)/oom-*; \
@@ -159,9 +163,20 @@ fuzz: $(FUZZ)/driver
 		done; exit 1
 endif
 
-# DOES_NOT_RETURN waits for PATIENCE. The last is for valgrind.
-fuzz-check: $(FUZZ_FILES)
+# First, that a case is the same by each compiler, or one that libFuzzer kept would not be met again. Then each kind of
+# wrong: DOES_NOT_RETURN waits for PATIENCE, and the last is for valgrind. One of them is shown to libFuzzer too, and what
+# that keeps to the driver.
+fuzz-check: $(FUZZ_FILES) $(FUZZ)/libfuzzer_probe.c
 	@mkdir -p $(FUZZ)
+	@rm -f $(FUZZ)/same.txt
+	@for compiler in gcc clang; do \
+		command -v $$compiler >/dev/null || { echo "$$compiler is not installed"; continue; }; \
+		$$compiler -std=c99 $(STRICT_FLAGS) $(FUZZED) fuzz/driver.c $(LIBRARY) -o $(FUZZ)/same || exit 1; \
+		$(FUZZ)/same --count 100000 >$(FUZZ)/same_$$compiler.txt || exit 1; \
+		test -f $(FUZZ)/same.txt || cp $(FUZZ)/same_$$compiler.txt $(FUZZ)/same.txt; \
+		diff $(FUZZ)/same.txt $(FUZZ)/same_$$compiler.txt || { echo "$$compiler draws other cases"; exit 1; }; \
+		echo "$$compiler: $$(tail -n 1 $(FUZZ)/same.txt)"; \
+	done
 	@awk '/^    [A-Z][A-Z0-9_]*( = 1)?,?$$/ { sub(/,/, ""); print ++n, $$1 }' fuzz/wrong.h >$(FUZZ)/kinds.txt
 	@last=$$(wc -l <$(FUZZ)/kinds.txt); \
 	while read -r number name; do \
@@ -178,6 +193,15 @@ fuzz-check: $(FUZZ_FILES)
 		$$tool $(FUZZ)/wrong --case $(FUZZ)/wrong.case >/dev/null 2>&1 && { echo "$$name: not noticed in the case again"; exit 1; }; \
 		echo "$$name: $$(grep '^finding' $(FUZZ)/wrong.txt)"; \
 	done <$(FUZZ)/kinds.txt
+	@clang $(SANITIZE_FLAGS) -fsanitize=fuzzer $(FUZZ)/libfuzzer_probe.c -o $(FUZZ)/probe 2>/dev/null || { echo "clang's libFuzzer is not installed"; exit 0; }; \
+		number=$$(awk '$$2 == "FOUR_BY_PAIRS" { print $$1 }' $(FUZZ)/kinds.txt); \
+		clang -std=c99 $(STRICT_FLAGS) $(SANITIZE_FLAGS) -fsanitize=fuzzer -DWRONG=$$number $(FUZZED) $(LIBRARY) -o $(FUZZ)/wrong_libfuzzer || exit 1; \
+		$(CC) -std=c99 $(STRICT_FLAGS) -DWRONG=$$number $(FUZZED) fuzz/driver.c $(LIBRARY) -o $(FUZZ)/wrong || exit 1; \
+		rm -f $(FUZZ)/wrong.case; \
+		$(FUZZ)/wrong_libfuzzer -seed=1 -max_total_time=120 -max_len=256 -exact_artifact_path=$(FUZZ)/wrong.case >$(FUZZ)/wrong.txt 2>&1; \
+		test -f $(FUZZ)/wrong.case || { echo "libFuzzer does not notice FOUR_BY_PAIRS"; exit 1; }; \
+		$(FUZZ)/wrong --case $(FUZZ)/wrong.case >/dev/null 2>&1 && { echo "the driver does not notice it in libFuzzer's case"; exit 1; }; \
+		echo "libFuzzer, and the driver in the case that it kept: $$(grep '^finding' $(FUZZ)/wrong.txt)"
 	@echo "all that was made wrong was noticed, and again when the case was given again"
 
 fuzz-coverage: $(FUZZ_FILES)

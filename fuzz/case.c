@@ -1,6 +1,9 @@
 /*
  * Drawing a case out of bytes. Most numbers come out right, so that the calls get far; the others are neighbours of
  * the right ones, numbers that are right in their lowest bits alone, the ends of their types, and any at all.
+ *
+ * C leaves it to the compiler which argument or operand comes first, and a case has to be the same by every compiler: no
+ * expression here takes bytes twice, unless it says the order, as ?: and && do.
  */
 #include <inttypes.h>
 #include <stdio.h>
@@ -45,12 +48,14 @@ static int32_t as_signed(uint64_t number)
 static uint32_t kind(uint32_t meanings)
 {
     uint32_t byte = (uint32_t)take(1);
+    uint32_t bit;
 
     switch (byte) {
     case 252:
         return meanings;
     case 253:
-        return (1u << (8 + take(1) % 24)) + (uint32_t)take(1) % meanings;
+        bit = 1u << (8 + take(1) % 24);
+        return bit + (uint32_t)take(1) % meanings;
     case 254:
         return UINT32_MAX - (uint32_t)take(1) % 4;
     case 255:
@@ -153,6 +158,13 @@ static size_t length_like(size_t right)
     }
 }
 
+static void draw_buffer(struct a_case *c, size_t slot, size_t right)
+{
+    size_t length = length_like(right);
+
+    set_buffer(c, slot, length, take(2));
+}
+
 /* ---- vectors and updates */
 
 static void draw_part(struct part *part)
@@ -182,7 +194,7 @@ static void draw_predictors(struct a_case *c)
     struct fozdrik_pmv pmv;
     uint32_t t;
 
-    set_buffer(c, PREDICTORS, length_like(FOZDRIK_PREDICTORS_LENGTH), take(2));
+    draw_buffer(c, PREDICTORS, FOZDRIK_PREDICTORS_LENGTH);
     memcpy(pmv.bytes, contents[PREDICTORS], sizeof pmv.bytes);
     for (t = 0; t < 2 && c->call == VECTOR; t++) {
         fozdrik_pmv_set(&pmv, c->r, c->s, t, draw_prior(&c->parts[t]));
@@ -199,7 +211,7 @@ static void draw_vector(struct a_case *c)
     c->mv_format = kind(2);
     c->picture_structure = kind(3);
     draw_predictors(c);
-    set_buffer(c, RESULT, length_like(FOZDRIK_VECTOR_LENGTH), take(2));
+    draw_buffer(c, RESULT, FOZDRIK_VECTOR_LENGTH);
 }
 
 static void draw_update(struct a_case *c)
@@ -214,7 +226,7 @@ static void draw_update(struct a_case *c)
     update->macroblock_intra = mostly(0);
     update->concealment_motion_vectors = kind(2);
     draw_predictors(c);
-    set_buffer(c, RESULT, length_like(FOZDRIK_OUTCOME_LENGTH), take(2));
+    draw_buffer(c, RESULT, FOZDRIK_OUTCOME_LENGTH);
 }
 
 /* ---- macroblocks */
@@ -360,7 +372,7 @@ static void draw_macroblock(struct a_case *c)
     c->picture.height = once_in(16) ? any_size() : (size_t)take(1);
     c->column = cell();
     c->row = cell();
-    set_buffer(c, RESULT, length_like(lengths[c->picture.chroma_format % 3]), take(2));
+    draw_buffer(c, RESULT, lengths[c->picture.chroma_format % 3]);
     draw_reference(c, FOZDRIK_FORWARD);
     if (once_in(16)) {
         /* one picture is both references */

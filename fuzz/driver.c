@@ -303,6 +303,7 @@ int main(int count_of_arguments, char **arguments)
     if (gaps > 0) {
         printf("%d of these were met by no case\n", gaps);
     }
-    printf("seed %" PRIu64 ", %" PRIu64 " cases, %" PRIu64 " calls: no finding\n", seed, count, met.calls);
+    printf("seed %" PRIu64 ", %" PRIu64 " cases, %" PRIu64 " calls, checksum %016" PRIx64 ": no finding\n", seed, count,
+           met.calls, met.checksum);
     return gaps > 0 && count >= ENOUGH;
 }

@@ -233,6 +233,27 @@ static void check(
     }
 }
 
+static void add(const uint8_t *bytes, size_t length)
+{
+    size_t i;
+
+    for (i = 0; i < length; i++) {
+        met.checksum = (met.checksum ^ bytes[i]) * 0x100000001b3u;
+    }
+}
+
+/* Adds what the call has left in the buffers; of long ones the first bytes. */
+static void add_buffers(const struct a_case *c, uint8_t *const at[SLOTS], uint32_t number)
+{
+    uint8_t byte = (uint8_t)number;
+    size_t slot;
+
+    add(&byte, 1);
+    for (slot = first_slot(c); slot < end_slot(c); slot++) {
+        add(at[slot], c->buffers[slot].length > FOZDRIK_MACROBLOCK_444 ? 64 : c->buffers[slot].length);
+    }
+}
+
 static void count(const struct a_case *c, const struct answer *right)
 {
     met.answers[c->call][right->number]++;
@@ -262,6 +283,9 @@ int LLVMFuzzerTestOneInput(const uint8_t *bytes, size_t length)
         number = made_wrong(&c, at, placements[form], number);
 #endif
         check(&c, &right, at, number, form);
+        if (placements[form] == BEHIND_A_GUARD) {
+            add_buffers(&c, at, number);
+        }
         if (!take_back(&c, placements[form], at)) {
             finding(&c, form, "bytes before a buffer were changed");
         }
