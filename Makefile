@@ -13,6 +13,7 @@
 # make picture         make docs/plate.png anew; needs python3
 # make demonstration   build the Rattle program that shows the layers one by one, proved, and run it
 # make plot            draw docs/drift.svg anew, from what the program run_drift prints
+# make forms-check     see that the lines which docs/DECISIONS.md gives for document 01's forms have them
 # make test            the gate: prove everything from nothing, try the must-fail edits, run the programs
 # make differential    build the Rust original, see that the lists in the repository are its answers, and compare the
 #                      library with it, call by call through C, by the million; SEED=N and COUNT=N draw other cases or more
@@ -44,7 +45,7 @@ sources = crates.txt $(shell find $(addprefix crates/,$(1)) -name '*.rt' -o -nam
 .NOTPARALLEL:
 
 .PHONY: all declarations symbols header-test example-check sanitize fuzz fuzz-check fuzz-coverage picture demonstration \
-	plot test differential lists-check compare lists bench bench-counts clean
+	plot forms-check test differential lists-check compare lists bench bench-counts clean
 
 all: $(LIBRARY)
 	@mkdir -p build
@@ -245,6 +246,9 @@ demonstration:
 
 plot:
 	awk -f docs/drift.awk crates/run_drift/stdout >docs/drift.svg
+
+forms-check:
+	@awk -f docs/forms.awk docs/DECISIONS.md
 
 test:
 	@.ci/run

@@ -1330,7 +1330,7 @@ right. Off by one: every other value of a call, a predictor after it, and each o
 a reset. Of the lent record: what it is before a call; a predictor read, and one set; 4 for a
 component that is accepted; the horizontal predictor restored; a delta; the record unchanged by
 an update, and the outcome of another context; a reset that is not made, and one that leaves a
-predictor",
+predictor. Lines that set the lent record before these are right",
     );
     let mut signless = Delta::ask(coded(-3, Some(1), 2));
     signless.answer = Ok([6]);
