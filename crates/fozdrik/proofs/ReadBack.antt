@@ -69,14 +69,14 @@ module _ (n a b c d : ℕ) (ha : a < 256) (hb : b < 256) (hc : c < 256) (hd : d 
       rw w (λ i. first i ∷ second i ∷ third i ∷ fourth i ∷ [])
 
 -- 32 bytes are read and written back
-pub bytes-back : (l : List ℕ) → length l ≡ 32 → All (λ (b : ℕ). b < 256) l → predictorBytes (predictorsOf l) ≡ l
+pub bytes-read-back : (l : List ℕ) → length l ≡ 32 → ((i : ℕ) → getD l i 0 < 256) → predictorBytes (predictorsOf l) ≡ l
 unfolding predictorsOf numberAt numbersBytes tabulate
-bytes-back l n p =
+bytes-read-back l n b =
     (λ i. at 0 i ++ (at 4 i ++ (at 8 i ++ (at 12 i ++ (at 16 i ++ (at 20 i ++ (at 24 i ++ (at 28 i ++ []))))))))
     ∙ (sym (ap (λ (k : ℕ). tabulate k (λ (i : ℕ). getD l i 0)) n) ∙ tab-self l)
   where
-    b : (i : ℕ) → getD l i 0 < 256
-    b = below-at l p
-
     at : (k : ℕ) → bytesOf (numberOf (wordAt l k)) ≡ getD l k 0 ∷ getD l (k + 1) 0 ∷ getD l (k + 2) 0 ∷ getD l (k + 3) 0 ∷ []
     at k = bytes-read (wordAt l k) (getD l k 0) (getD l (k + 1) 0) (getD l (k + 2) 0) (getD l (k + 3) 0) (b k) (b (k + 1)) (b (k + 2)) (b (k + 3)) refl
+
+pub bytes-back : (l : List ℕ) → length l ≡ 32 → All (λ (b : ℕ). b < 256) l → predictorBytes (predictorsOf l) ≡ l
+bytes-back l n p = bytes-read-back l n (below-at l p)

@@ -1,46 +1,53 @@
--- What the arms of an update's answer say, and the lengths of the buffers of the C entry points for vectors and updates.
+-- What an update leaves in its buffers, and the lengths of the buffers of the C entry points for vectors and updates.
 -- Assumes nothing.
-use mathlib.Core.Path.{_≡_, refl, ap}
-use mathlib.Core.Bool.{Bool, true, false, _&&_}
+use mathlib.Core.Path.{_≡_, refl}
+use mathlib.Core.Bool.{true, _&&_}
 use mathlib.Core.List.{List, [], _∷_}
-use mathlib.Core.Option.{Option, none, some}
-use Prim.Native.Nat.{ℕ, zero, suc}
+use Prim.Native.Nat.{ℕ, zero, suc, _<_}
 use native.Mathlib.Omega.{arith}
 use lib.Dec.{eqb}
-use lib.ListN.{length, set}
+use lib.ListN.{length, getD, set}
 use borrow.Author.Tests.{eqb-true}
 use Rattle.laws.proofs.Tests.{both}
-use Rattle.forming_predictions.specs.SampleAnswers.{valueUnless}
-use Rattle.pmv.specs.Answers.{updateNumber, updateValue}
+use Rattle.combine_predictions.specs.Refusals.{unlessRefused}
+use Rattle.pmv.specs.Answers.{updateNumber, updateAnswer}
+use Rattle.pmv.specs.Update.{updateRefusal, updateOutcome, outcomeNumber, after, updated}
 use Rattle.pmv.specs.Kinds.{flagFrom, flagKnown, indexFrom, indexKnown, directionFrom, directionKnown, formatFrom, formatKnown, structureFrom, structureKnown, typeFrom, typeKnown}
+use Rattle.fozdrik.specs.Layout.{predictorsOf, predictorBytes}
 use Rattle.fozdrik.specs.Entries.{presenceKnown, vectorKnown, updateKnown}
-use Rattle.pmv.specs.declared.update.PmvUpdateOutcome.{PmvUpdateOutcome}
+use Rattle.fozdrik.specs.inner.Outcomes.{outcomeByte}
+use Rattle.fozdrik.proofs.ReadBack.{bytes-read-back}
+use Rattle.pmv.specs.declared.predictors.Pmv.{Pmv}
+use Rattle.pmv.specs.declared.update.PmvUpdateContext.{PmvUpdateContext}
+use Rattle.pmv.specs.declared.update.PredictorUpdate.{PredictorUpdate}
 use Rattle.pmv.specs.declared.update.Updated.{Updated}
-use Rattle.pmv.specs.declared.update.Updated.the-variants.{Outcome, Refused}
 
-abbrev isSome : {X : Type 0} → Option X → Bool
-isSome none = false
-isSome (some v) = true
-
-abbrev valueOr : {X : Type 0} → X → Option X → X
-valueOr z none = z
-valueOr z (some v) = v
-
-module _ (r : Updated) (o : PmvUpdateOutcome) (m : ℕ) (p : updateNumber r ≡ m) (q : updateValue r ≡ valueUnless (updateNumber r) o) where
-  pub update-outcome : (row : PmvUpdateOutcome) → r ≡ Outcome row → (0 ≡ m) × (row ≡ o)
-  update-outcome row e = (rw e at p, ap (valueOr row) (rw e at q))
-
-  pub update-refused : (n : ℕ) → r ≡ Refused n → (n ≡ m) × (n ≡ 0 → ⊥)
-  update-refused n e = (rw e at p, λ z. at n z (rw e at q))
-    where
-      at : (n : ℕ) → n ≡ 0 → none ≡ valueUnless n o → ⊥
-      at zero z v = let b = ap isSome v in let y : _≡_ {A = ℕ} 0 1 = cc in absurd (omega arith)
-      at (suc n) z v = absurd (omega arith)
-
-pub one-set : (l : List ℕ) (k : ℕ) → length l ≡ 1 → set l 0 k ≡ k ∷ []
+one-set : (l : List ℕ) (k : ℕ) → length l ≡ 1 → set l 0 k ≡ k ∷ []
 one-set [] k e = absurd (omega arith)
 one-set (x ∷ []) k e = refl
 one-set (x ∷ y ∷ l) k e = absurd (omega arith)
+
+one-same : (l : List ℕ) → length l ≡ 1 → set l 0 (getD l 0 0) ≡ l
+one-same [] e = absurd (omega arith)
+one-same (x ∷ []) e = refl
+one-same (x ∷ y ∷ l) e = absurd (omega arith)
+
+-- An update's answer and predictors give the number of the refusal and both buffers, which are written either way: a refusal writes what
+-- they hold.
+module _ (x : PmvUpdateContext) (p o : List ℕ) (np : length p ≡ 32) (bp : (i : ℕ) → getD p i 0 < 256) (no : length o ≡ 1) where
+  abbrev Left : ℕ → Updated → Pmv → Type 0
+  Left m r q =
+      (updateNumber r ≡ m)
+      × ((predictorBytes q ≡ unlessRefused (updateNumber r) (predictorBytes q) p)
+      × (set o 0 (outcomeByte r (getD o 0 0)) ≡ unlessRefused (updateNumber r) (outcomeNumber (updateOutcome x) ∷ []) o))
+
+  at : (m : ℕ) → Left m (updateAnswer m (updateOutcome x)) (unlessRefused m (after (updateOutcome x) (predictorsOf p)) (predictorsOf p))
+  at zero = (refl, (refl, one-set o (outcomeNumber (updateOutcome x)) no))
+  at (suc m) = (refl, (bytes-read-back p np bp, one-same o no))
+
+  pub updated-left : (u : PredictorUpdate) → u ≡ updated (predictorsOf p) x → Left (updateRefusal x) (u .answer) (u .pmv)
+  unfolding updated
+  updated-left u e = rw e (at (updateRefusal x))
 
 -- ---- the lengths of the buffers, where all is known
 pub vector-lengths : (r s h v f t p n : ℕ) → vectorKnown r s h v f t p n ≡ true → (p ≡ 32) × (n ≡ 8)

@@ -25,7 +25,7 @@ ghost use Rattle.inter_reconstruction.specs.Frames.{samplesOf, lengthsOf, isPre
 ghost use Rattle.inter_reconstruction.specs.Macroblock.{predicted};
 ghost use Rattle.inter_reconstruction.specs.Refusals.{predictionRefusal};
 ghost use Rattle.inter_reconstruction.specs.Answers.{predictionNumber};
-ghost use Rattle.fozdrik.specs.Entries.{unknownRefusal, isYes, referenceKnown, fieldsKnown, frameKnown, fieldKnown, geometryOf, referenceOf, frameDirectionOf, fieldVectorOf, fieldDirectionOf, frameMotionOf, fieldMotionOf};
+ghost use Rattle.fozdrik.specs.Entries.{unknownRefusal, isYes, presenceKnown, referenceKnown, fieldsKnown, frameKnown, fieldKnown, geometryOf, referenceOf, frameDirectionOf, fieldVectorOf, fieldDirectionOf, frameMotionOf, fieldMotionOf};
 
 /// Refusal: a number that is read has no meaning.
 pub const NO_MEANING: u8 = 38;
@@ -42,23 +42,28 @@ fn number_of(answer: MacroblockPrediction) -> u32
 
 // ---- whether the numbers that are read have a meaning
 
+/// A presence, and whether what is read where it is 1 has a meaning.
+pub fn presence_known(present: u32, rest: bool) -> bool
+    ensures { λ r. ⌜ r ≡ presenceKnown present rest ⌝ }
+{
+    (present == 0) | ((present == 1) & rest)
+}
+
 /// A presence, with a format that is read where it is 1.
 fn reference_known(present: u32, format: u32) -> bool
     ensures { λ r. ⌜ r ≡ referenceKnown present format ⌝ }
 {
-    let presence = flag_from_number(present);
     let kind = ChromaFormat::from_number(format);
-    presence.is_some() & (!presence.or_first() | kind.is_some())
+    presence_known(present, kind.is_some())
 }
 
 /// A presence, with two fields' parities that are read where it is 1.
 fn fields_known(present: u32, top_field: u32, bottom_field: u32) -> bool
     ensures { λ r. ⌜ r ≡ fieldsKnown present «top_field» «bottom_field» ⌝ }
 {
-    let presence = flag_from_number(present);
     let top = parity_from_number(top_field);
     let bottom = parity_from_number(bottom_field);
-    presence.is_some() & (!presence.or_first() | (top.is_some() & bottom.is_some()))
+    presence_known(present, top.is_some() & bottom.is_some())
 }
 
 fn frame_known(

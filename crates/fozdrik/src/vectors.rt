@@ -1,6 +1,7 @@
 //! The card's C entry points for vectors and predictors, on numbers and bytes.
 use crate::prediction::NO_MEANING;
 use crate::prediction::is_yes;
+use crate::prediction::presence_known;
 use pmv::component::MotionResidual;
 use pmv::kinds::Component;
 use pmv::kinds::Direction;
@@ -27,9 +28,10 @@ ghost use lib.ListN.{length};
 ghost use Rattle.combine_predictions.specs.Refusals.{orElse, unlessRefused};
 ghost use Rattle.pmv.specs.Predictors.{pairOf};
 ghost use Rattle.pmv.specs.Update.{updateRefusal, updateOutcome, outcomeNumber, updated};
-ghost use Rattle.pmv.specs.Answers.{vectorNumber};
+ghost use Rattle.pmv.specs.Answers.{vectorNumber, updateNumber};
 ghost use Rattle.fozdrik.specs.Layout.{wordOf, numberOf, bytesOf, numberAt, pairBytes, predictorsOf, predictorBytes, withPair};
 ghost use Rattle.fozdrik.specs.Entries.{unknownRefusal, residualOf, typeOf, vectorKnown, updateKnown, indexOf, directionOf, formatOf, structureOf, motionVectorOf, contextOf, vectorFrom, vectorBytes};
+ghost use Rattle.fozdrik.specs.inner.Outcomes.{outcomeByte};
 
 // ---- the buffers: 32-bit numbers in two's complement, each as four bytes, the lowest first
 
@@ -213,13 +215,12 @@ fn update_known(
     ensures { λ k. ⌜ k ≡ updateKnown «picture_structure» «type_present» «prediction_type» forward backward intra concealment predictors outcome ⌝ }
 {
     let structure = PictureStructure::from_number(picture_structure);
-    let presence = flag_from_number(type_present);
     let kind = PredictionType::from_number(prediction_type);
     let f = flag_from_number(forward);
     let b = flag_from_number(backward);
     let i = flag_from_number(intra);
     let c = flag_from_number(concealment);
-    (structure.is_some() & (presence.is_some() & (!presence.or_first() | kind.is_some())))
+    (structure.is_some() & presence_known(type_present, kind.is_some()))
         & (((f.is_some() & b.is_some()) & (i.is_some() & c.is_some()))
             & ((predictors == 32) & (outcome == 1)))
 }
@@ -274,7 +275,28 @@ fn vector_in_bytes(
     store_vector(answer, vector)
 }
 
-/// An update, on buffers of the right lengths.
+/// The byte for the outcome: its number, or what was there where the update is refused.
+fn outcome_byte(answer: Updated, before: u8) -> u8
+    ensures { λ r. ⌜ r ≡ outcomeByte answer before ⌝ }
+{
+    match answer {
+        Updated::Outcome(row) => row.number(),
+        Updated::Refused(_) => before,
+    }
+}
+
+/// 0, or the number of the refusal.
+fn refusal_of(answer: Updated) -> u32
+    ensures { λ r. ⌜ r ≡ updateNumber answer ⌝ }
+{
+    match answer {
+        Updated::Outcome(_) => 0,
+        Updated::Refused(number) => number as u32,
+    }
+}
+
+/// An update, on buffers of the right lengths. Both buffers are written either way, a refusal with what they hold, so that no jump depends on
+/// the answer.
 fn update_in_bytes(ctx: PmvUpdateContext, predictors: &mut [u8], outcome: &mut [u8]) -> u32
     requires { ⌜ (length (now predictors) ≡ 32) × (length (now outcome) ≡ 1) ⌝ }
     ensures number { λ r. ⌜ r ≡ updateRefusal ctx ⌝ }
@@ -284,14 +306,9 @@ fn update_in_bytes(ctx: PmvUpdateContext, predictors: &mut [u8], outcome: &mut [
     let update = updated_predictors(load_predictors(predictors), ctx);
     let kept = update.pmv;
     let answer = update.answer;
-    match answer {
-        Updated::Outcome(row) => {
-            store_predictors(kept, predictors);
-            outcome[0] = row.number();
-            0
-        }
-        Updated::Refused(number) => number as u32,
-    }
+    store_predictors(kept, predictors);
+    outcome[0] = outcome_byte(answer, outcome[0]);
+    refusal_of(answer)
 }
 
 // ---- the calls

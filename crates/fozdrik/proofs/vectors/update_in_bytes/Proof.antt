@@ -1,16 +1,16 @@
 -- `update_in_bytes` meets its contract.
 -- Assumes nothing.
-use mathlib.Core.List.{[], _∷_}
-use Prim.Native.Nat.{ℕ}
-use mathlib.Core.Path.{refl, sym, ap, _∙_}
-use borrow.Author.Needs.{needs}
-use Rattle.pmv.proofs.Answers.{kept}
-use Rattle.pmv.specs.Update.{outcomeNumber}
+use mathlib.Core.Path.{ap, _∙_}
+use native.Mathlib.Omega.{arith}
+use lib.ListN.{set}
+use Rattle.combine_predictions.specs.Refusals.{unlessRefused}
+use Rattle.pmv.specs.Answers.{updateNumber}
 use Rattle.pmv.specs.declared.update.PredictorUpdate.{PredictorUpdate}
 use Rattle.fozdrik.specs.Layout.{predictorBytes}
-use Rattle.fozdrik.proofs.vectors.update_in_bytes.Tie as tie
-use Rattle.fozdrik.proofs.Updates.{update-outcome, update-refused, one-set}
+use Rattle.fozdrik.proofs.Updates.{updated-left}
+use borrow.Author.Needs.{needs}
 use Rattle.fozdrik.proofs.vectors.update_in_bytes.Statement.{statement}
+use Rattle.fozdrik.proofs.vectors.update_in_bytes.Tie as tie
 
 load-predictors-requires : tie.Need-load-predictors-requires
 load-predictors-requires c κs = search needs
@@ -18,23 +18,20 @@ load-predictors-requires c κs = search needs
 updated-predictors-requires : tie.Need-updated-predictors-requires
 updated-predictors-requires c κs = search needs
 
-enum-known-answer : tie.Need-enum-known-answer
-enum-known-answer c = search needs
-
 store-predictors-requires : tie.Need-store-predictors-requires
 store-predictors-requires c κs = search needs
 
-number-requires : tie.Need-number-requires
-number-requires c κs = search needs
+slice-read-outcome-byte : tie.Need-slice-read-outcome-byte
+slice-read-outcome-byte c = search needs
+
+outcome-byte-requires : tie.Need-outcome-byte-requires
+outcome-byte-requires c κs = search needs
 
 slice-write-outcome : tie.Need-slice-write-outcome
 slice-write-outcome c = search needs
 
-enum-known-answer-2 : tie.Need-enum-known-answer-2
-enum-known-answer-2 c = search needs
-
-cast-result : tie.Need-cast-result
-cast-result c = search needs
+refusal-of-requires : tie.Need-refusal-of-requires
+refusal-of-requires c κs = search needs
 
 same-length : tie.Need-same-length
 same-length c = search needs
@@ -44,32 +41,24 @@ same-length-2 c = search needs
 
 returns : tie.Need-returns
 returns c =
-    let f = c .before .before .before in
-    let a = f .before .before .before in
-    let u = a .before .before .before in
-    let s = u .before .before .before .before .before in
-    let g = u .updated-predictors .ensures in
-    let e = rw (u .before .load-predictors .ensures) at (g .0) in
-    let t = update-outcome _ _ _ (g .1 .0) (g .1 .1) _ (a .answer .given .1) in
-    rw (← t .0) (
-      refl,
+    let b = c .before in
+    let t = b .before .before .before .before in
+    let u = t .before .before .before in
+    let l = u .before in
+    let k = l .before .before .before in
+    let s = k .before in
+    let a = s .args in
+    let e = rw (l .load-predictors .ensures) at (u .updated-predictors .ensures .0) in
+    let h = updated-left (a .ctx) (a .predictors .now) (a .outcome .now) (s .pre .0) (λ i. omega (arith, k .slice-known .given i)) (s .pre .1) (u .updated-predictors .result) e in
+    let r = u .updated-predictors .result in
+    rw (c .refusal-of .ensures) (
+      h .0,
       (
-        f .store-predictors .ensures ∙ ap (λ (x : PredictorUpdate). predictorBytes (x .pmv)) e,
-        one-set (s .args .outcome .now) (c .number .result) (s .pre .1)
-            ∙ ap (λ (k : ℕ). k ∷ []) (c .number .ensures ∙ ap outcomeNumber (t .1)),
+        t .store-predictors .ensures
+            ∙ (h .1 .0 ∙ ap (λ (v : PredictorUpdate). unlessRefused (updateNumber (r .answer)) (predictorBytes (v .pmv)) (a .predictors .now)) e),
+        ap (set (a .outcome .now) 0) (b .outcome-byte .ensures) ∙ h .1 .1,
       ),
     )
-
-same-length-3 : tie.Need-same-length-3
-same-length-3 c = search needs
-
-returns-2 : tie.Need-returns-2
-returns-2 c =
-    let a = c .before in
-    let u = a .before .before .before in
-    let g = u .updated-predictors .ensures in
-    let t = update-refused _ _ _ (g .1 .0) (g .1 .1) _ (a .answer2 .given .1) in
-    (t .0, (sym (kept (a .answer2 .given .0 .0) _ _ (t .1)), sym (kept (a .answer2 .given .0 .0) _ _ (t .1))))
 
 pub update-in-bytes-spec : {M : Type 1} → statement M
 update-in-bytes-spec =
@@ -77,14 +66,11 @@ update-in-bytes-spec =
     (tie.spec
     load-predictors-requires
     updated-predictors-requires
-    enum-known-answer
     store-predictors-requires
-    number-requires
+    slice-read-outcome-byte
+    outcome-byte-requires
     slice-write-outcome
-    enum-known-answer-2
-    cast-result
+    refusal-of-requires
     same-length
     same-length-2
-    returns
-    same-length-3
-    returns-2)
+    returns)

@@ -1,0 +1,9 @@
+-- The byte that an update's answer leaves for the outcome: document 01, "any refusal leaves the latter unchanged".
+use Prim.Native.Nat.{ℕ}
+use Rattle.pmv.specs.Update.{outcomeNumber}
+use Rattle.pmv.specs.declared.update.Updated.{Updated}
+use Rattle.pmv.specs.declared.update.Updated.the-variants.{Outcome, Refused}
+
+abbrev pub outcomeByte : Updated → ℕ → ℕ
+outcomeByte (Outcome row) before = outcomeNumber row
+outcomeByte (Refused n) before = before
