@@ -32,7 +32,7 @@ ghost use Rattle.forming_predictions.specs.Means.{rounded};
 ghost use Rattle.inter_reconstruction.specs.declared.motion.DirectionMotion.the-variants.{Frame, Field};
 ghost use Rattle.inter_reconstruction.specs.declared.motion.Uses.the-variants.{Both};
 ghost use Rattle.inter_reconstruction.specs.Components.{ColourComponent};
-ghost use Rattle.inter_reconstruction.specs.Motion.{frameUses, fieldUses};
+ghost use Rattle.inter_reconstruction.specs.Motion.{frameUses, fieldUses, fieldVectorOf};
 ghost use Rattle.inter_reconstruction.specs.Frames.{readPlane, samplesOf, readFrame, lengthsOf, isPresent, readReference};
 ghost use Rattle.inter_reconstruction.specs.Macroblock.{fieldSample, directionSample, usedSample, rectangle, predicted};
 ghost use Rattle.inter_reconstruction.specs.Refusals.{sameGeometry, planesFit, oneRefusal, referencesRefusal, predictionRefusal};
@@ -163,7 +163,18 @@ fn interleave(halves: &[u8], width: usize, half: usize, out: &mut [u8])
     }
 }
 
-/// Both fields' lines, one block after the other.
+/// The vector of a macroblock's field, the top one for 0.
+fn vector_of(pair: FieldVectorPair, field: usize) -> FieldVector
+    ensures { λ r. ⌜ r ≡ fieldVectorOf pair field ⌝ }
+{
+    if field == 0 {
+        return pair.top;
+    }
+    pair.bottom
+}
+
+/// Both fields' lines, one block after the other. As there is one call for both, it is inlined, and what is the same for both fields is tested
+/// once.
 fn predict_halves(
     plane: ReferencePlane,
     samples: &[u8],
@@ -178,20 +189,22 @@ fn predict_halves(
     ensures { λ r. ⌜ now (out .exit) ≡ fieldHalves (readPlane plane (now (samples .entry))) pair width height x line ⌝ }
 {
     let n = width * height;
-    let e = n + n;
-    let top = pair.top;
-    let bottom = pair.bottom;
-    predict_lines(plane, samples, x, line, width, height, top, &mut out[0..n]);
-    predict_lines(
-        plane,
-        samples,
-        x,
-        line,
-        width,
-        height,
-        bottom,
-        &mut out[n..e],
-    );
+    let mut f: usize = 0;
+    while f < 2 {
+        let a = f * n;
+        let e = a + n;
+        predict_lines(
+            plane,
+            samples,
+            x,
+            line,
+            width,
+            height,
+            vector_of(pair, f),
+            &mut out[a..e],
+        );
+        f += 1;
+    }
 }
 
 /// The block of a direction whose fields have vectors of their own: each field's lines, then interleaved.
