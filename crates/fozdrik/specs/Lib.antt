@@ -1,3 +1,4 @@
--- What must be believed of the C interface: the bytes of its buffers, and what its numbers mean, refusal 38 among it.
+-- What must be believed of the C interface: the bytes of its buffers, and what its numbers mean, refusal 38 among it. It is document 01's; what
+-- the calls give is defined in the layers.
 pub mod Layout
 pub mod Entries
