@@ -1,4 +1,5 @@
 -- ISO/IEC 13818-2, 7.6.7.1 and 7.6.7.2: the mean of the forward and the backward prediction, of frames and of fields alike.
+-- Document 01: refusal 19, then 18, by the three lengths, and the number of each answer. The standard refuses nothing.
 use mathlib.Core.Bool.{not}
 use mathlib.Core.List.{List}
 use Prim.Native.Nat.{ℕ, zero, suc, _+_}

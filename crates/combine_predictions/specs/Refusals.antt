@@ -1,4 +1,4 @@
--- Document 01, "When a call refuses": a refusal is its number, and 0 stands for none.
+-- Document 01, "When a call refuses": a refusal is its number, and 0 stands for none. Nothing here is the standard's.
 use mathlib.Core.Bool.{Bool, true, false}
 use Prim.Native.Nat.{ℕ, zero, suc}
 

@@ -1,2 +1,3 @@
--- What private contracts speak of. Nothing of it need be believed: the public promises are proved from it.
+-- What private contracts speak of. Nothing of it need be believed: the public promises are proved from it. Nothing here is the standard's or
+-- document 01's.
 pub mod Views

@@ -1,2 +1,2 @@
--- What private contracts alone speak of. No promise of a public call cites it.
+-- What private contracts speak of. Nothing of it need be believed: the public promises are proved from it.
 pub mod Outcomes

@@ -1,4 +1,5 @@
 -- ISO/IEC 13818-2, 7.6.4 to 7.6.7: the predicted samples of a macroblock of a frame picture, over the arithmetic of means.
+-- Document 01: a macroblock past the picture's edge is formed too, by clamping; field motion as two interleaved blocks, which is proved to be this.
 use mathlib.Core.List.{List, _++_}
 use Prim.Native.Nat.{ℕ, _+_, _*_, _/_, _%_}
 use lib.IntN.{pos}

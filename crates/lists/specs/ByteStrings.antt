@@ -1,4 +1,4 @@
--- Byte strings: two hexadecimal digits to a byte, and a lone minus for the empty string.
+-- Byte strings: two hexadecimal digits to a byte, and a lone minus for the empty string. The format is this repository's.
 use mathlib.Core.Path.{_≡_}
 use mathlib.Core.Bool.{Bool, _&&_, _||_, cond}
 use mathlib.Core.List.{List, _++_}

@@ -1,4 +1,4 @@
--- What the text of a list means. differential/README.md has the format.
+-- What the text of a list means. differential/README.md has the format, which is this repository's.
 pub mod Text
 pub mod Numbers
 pub mod ByteStrings

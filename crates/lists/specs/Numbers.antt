@@ -1,4 +1,4 @@
--- Decimal numbers.
+-- Decimal numbers. The format is this repository's.
 use mathlib.Core.Path.{_≡_}
 use mathlib.Core.Bool.{Bool, _&&_, cond}
 use mathlib.Core.List.{List, [], _∷_}

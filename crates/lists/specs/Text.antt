@@ -1,4 +1,4 @@
--- Words, lines and comments of a text.
+-- Words, lines and comments of a text. The format is this repository's.
 use mathlib.Core.Bool.{Bool, true, not, _&&_, _||_, cond}
 use mathlib.Core.List.{List, [], _∷_}
 use Prim.Native.Nat.{ℕ, suc, _+_, _-_, min}

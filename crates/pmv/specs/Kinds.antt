@@ -1,6 +1,8 @@
 -- The kinds that this layer's calls choose by. Document 01 counts them from 0 in the order of the Rust's enums where they cross to C, and
 -- any other number has no meaning. `XNumber` is the number of a kind, `XFrom` the kind of a number, if there is one; proofs/Numbers.antt
 -- shows that each undoes the other. Component and PictureCodingType cross in no C call, and have no `XFrom`.
+-- The standard has the kinds: r, s and t in Table 7-7, the motion types in Tables 6-17 and 6-18, and picture_structure, picture_coding_type and
+-- chroma_format, whose codes are others.
 use mathlib.Core.Bool.{Bool, true, false, cond}
 use Prim.Native.Nat.{ℕ}
 use lib.Dec.{eqb}

@@ -1,5 +1,6 @@
 -- ISO/IEC 13818-2, 7.6.3.1: components and vectors against the predictors, which take the new values. A vector reads and stores
 -- PMV[r][s][1:0] alone. What is refused of a component is a parameter.
+-- Document 01: the horizontal component is first, and stays stored where the vertical one is refused; `decode_motion_vector` never halves.
 use mathlib.Core.Bool.{Bool}
 use Prim.Native.Nat.{ℕ}
 use lib.IntN.{ℤ}

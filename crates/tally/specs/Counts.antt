@@ -1,4 +1,4 @@
--- The count after each line of a list.
+-- The count after each line of a list. For the replays alone.
 use mathlib.Core.Bool.{Bool, true, false, cond}
 use Prim.Native.Nat.{ℕ, _+_, _%_, _^_}
 use Rattle.tally.specs.declared.Tally.{Tally}

@@ -1,4 +1,4 @@
--- What the functions that place ask.
+-- What the functions that place ask. For private contracts alone.
 use mathlib.Core.Path.{_≡_}
 use mathlib.Core.Bool.{Bool, true, _&&_}
 use Prim.Native.Nat.{ℕ, _+_, _*_, _≤_}

@@ -1,4 +1,4 @@
--- What the functions on all three planes ask, and what they give.
+-- What the functions on all three planes ask, and what they give. For private contracts alone.
 use mathlib.Core.Path.{_≡_}
 use mathlib.Core.Bool.{not}
 use mathlib.Core.List.{List, _++_}

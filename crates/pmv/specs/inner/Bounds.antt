@@ -1,4 +1,5 @@
--- The numbers of a range are small, so that no sum with them overflows, and range is how many there are from low to high.
+-- The numbers of a range are small, so that no sum with them overflows, and range is how many there are from low to high. For private
+-- contracts alone.
 use mathlib.Core.Path.{_≡_}
 use lib.IntN.{pos, _+ℤ_}
 use Rattle.laws.proofs.Bounded.{Within}

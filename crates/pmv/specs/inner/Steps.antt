@@ -1,4 +1,4 @@
--- A vector as the code makes it: the vertical component's answer, after the horizontal component was stored.
+-- A vector as the code makes it: the vertical component's answer, after the horizontal component was stored. For private contracts alone.
 use Rattle.pmv.specs.declared.component.ReconstructedComponent.{ReconstructedComponent}
 use Rattle.pmv.specs.declared.component.Reconstructed.{Reconstructed}
 use Rattle.pmv.specs.declared.component.Reconstructed.the-variants as C
