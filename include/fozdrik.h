@@ -448,24 +448,12 @@ static inline size_t fozdrik_macroblock_length(uint32_t chroma_format)
     }
 }
 
-/* What the raw calls take for a reference: its fields, or zeros where it is absent. */
-static inline struct fozdrik_frame fozdrik_frame_or_absent(const struct fozdrik_frame *frame)
+/* What the raw calls take for a reference: it, or one of zeros where it is absent. */
+static inline const struct fozdrik_frame *fozdrik_frame_or_absent(const struct fozdrik_frame *frame)
 {
-    struct fozdrik_frame absent;
+    static const struct fozdrik_frame absent = {{0, 0, 0}, {NULL, 0, 0, 0}, {NULL, 0, 0, 0}, {NULL, 0, 0, 0}};
 
-    if (frame != NULL) {
-        return *frame;
-    }
-    absent.geometry.width = 0;
-    absent.geometry.height = 0;
-    absent.geometry.chroma_format = 0;
-    absent.y.samples = NULL;
-    absent.y.length = 0;
-    absent.y.width = 0;
-    absent.y.height = 0;
-    absent.cb = absent.y;
-    absent.cr = absent.y;
-    return absent;
+    return frame != NULL ? frame : &absent;
 }
 
 /* fozdrik_predict_frame_macroblock. A reference that is null is absent. */
@@ -474,17 +462,17 @@ static inline uint32_t fozdrik_predict_frame_based(
     const struct fozdrik_frame *forward, const struct fozdrik_frame *backward,
     const struct fozdrik_frame_motion *motion, uint8_t *out, size_t out_len)
 {
-    struct fozdrik_frame f = fozdrik_frame_or_absent(forward);
-    struct fozdrik_frame b = fozdrik_frame_or_absent(backward);
+    const struct fozdrik_frame *f = fozdrik_frame_or_absent(forward);
+    const struct fozdrik_frame *b = fozdrik_frame_or_absent(backward);
 
     return fozdrik_predict_frame_macroblock(
         picture->width, picture->height, picture->chroma_format, mb_col, mb_row,
-        forward != NULL, f.geometry.width, f.geometry.height, f.geometry.chroma_format,
-        f.y.width, f.y.height, f.cb.width, f.cb.height, f.cr.width, f.cr.height,
-        f.y.samples, f.y.length, f.cb.samples, f.cb.length, f.cr.samples, f.cr.length,
-        backward != NULL, b.geometry.width, b.geometry.height, b.geometry.chroma_format,
-        b.y.width, b.y.height, b.cb.width, b.cb.height, b.cr.width, b.cr.height,
-        b.y.samples, b.y.length, b.cb.samples, b.cb.length, b.cr.samples, b.cr.length,
+        forward != NULL, f->geometry.width, f->geometry.height, f->geometry.chroma_format,
+        f->y.width, f->y.height, f->cb.width, f->cb.height, f->cr.width, f->cr.height,
+        f->y.samples, f->y.length, f->cb.samples, f->cb.length, f->cr.samples, f->cr.length,
+        backward != NULL, b->geometry.width, b->geometry.height, b->geometry.chroma_format,
+        b->y.width, b->y.height, b->cb.width, b->cb.height, b->cr.width, b->cr.height,
+        b->y.samples, b->y.length, b->cb.samples, b->cb.length, b->cr.samples, b->cr.length,
         motion->forward_present, motion->forward.horizontal, motion->forward.vertical,
         motion->backward_present, motion->backward.horizontal, motion->backward.vertical,
         out, out_len);
@@ -496,17 +484,17 @@ static inline uint32_t fozdrik_predict_field_based(
     const struct fozdrik_frame *forward, const struct fozdrik_frame *backward,
     const struct fozdrik_field_motion *motion, uint8_t *out, size_t out_len)
 {
-    struct fozdrik_frame f = fozdrik_frame_or_absent(forward);
-    struct fozdrik_frame b = fozdrik_frame_or_absent(backward);
+    const struct fozdrik_frame *f = fozdrik_frame_or_absent(forward);
+    const struct fozdrik_frame *b = fozdrik_frame_or_absent(backward);
 
     return fozdrik_predict_field_macroblock(
         picture->width, picture->height, picture->chroma_format, mb_col, mb_row,
-        forward != NULL, f.geometry.width, f.geometry.height, f.geometry.chroma_format,
-        f.y.width, f.y.height, f.cb.width, f.cb.height, f.cr.width, f.cr.height,
-        f.y.samples, f.y.length, f.cb.samples, f.cb.length, f.cr.samples, f.cr.length,
-        backward != NULL, b.geometry.width, b.geometry.height, b.geometry.chroma_format,
-        b.y.width, b.y.height, b.cb.width, b.cb.height, b.cr.width, b.cr.height,
-        b.y.samples, b.y.length, b.cb.samples, b.cb.length, b.cr.samples, b.cr.length,
+        forward != NULL, f->geometry.width, f->geometry.height, f->geometry.chroma_format,
+        f->y.width, f->y.height, f->cb.width, f->cb.height, f->cr.width, f->cr.height,
+        f->y.samples, f->y.length, f->cb.samples, f->cb.length, f->cr.samples, f->cr.length,
+        backward != NULL, b->geometry.width, b->geometry.height, b->geometry.chroma_format,
+        b->y.width, b->y.height, b->cb.width, b->cb.height, b->cr.width, b->cr.height,
+        b->y.samples, b->y.length, b->cb.samples, b->cb.length, b->cr.samples, b->cr.length,
         motion->forward_present,
         motion->forward.top.reference_field,
         motion->forward.top.vector.horizontal, motion->forward.top.vector.vertical,

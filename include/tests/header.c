@@ -231,7 +231,7 @@ static void test_macroblocks(void)
     struct fozdrik_geometry picture = {16, 16, FOZDRIK_YUV420};
     struct fozdrik_frame before = one_sample(samples[0]);
     struct fozdrik_frame after = one_sample(samples[1]);
-    struct fozdrik_frame absent = fozdrik_frame_or_absent(NULL);
+    struct fozdrik_frame absent = *fozdrik_frame_or_absent(NULL);
     struct fozdrik_frame_motion frames = {FOZDRIK_YES, {3, -2}, FOZDRIK_YES, {0, 0}};
     struct fozdrik_field_vector own = {FOZDRIK_TOP, {1, 1}};
     struct fozdrik_field_vector other = {FOZDRIK_BOTTOM, {-1, 0}};
@@ -242,7 +242,7 @@ static void test_macroblocks(void)
     HOLDS(fozdrik_macroblock_length(FOZDRIK_YUV420) == 384 && fozdrik_macroblock_length(FOZDRIK_YUV422) == 512);
     HOLDS(fozdrik_macroblock_length(FOZDRIK_YUV444) == 768 && fozdrik_macroblock_length(3) == 0);
     HOLDS(absent.y.samples == NULL && absent.cb.length == 0 && absent.cr.width == 0 && absent.geometry.height == 0);
-    HOLDS(fozdrik_frame_or_absent(&before).cr.samples == samples[0] + 2);
+    HOLDS(fozdrik_frame_or_absent(&before) == &before);
 
     memset(out, 7, sizeof out);
     HOLDS(fozdrik_predict_frame_based(&picture, 0, 0, &before, NULL, &frames, out, sizeof out) ==
