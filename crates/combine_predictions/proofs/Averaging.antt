@@ -16,11 +16,6 @@ mean2-is a b = refl
 pub mean2-byte : (a b : ℕ) → a < 256 → b < 256 → mean2 a b < 256
 mean2-byte a b h k = omega arith
 
--- an answer's number is the one that it was made of
-pub number-answer : (n : ℕ) → numberOf (answerOf n) ≡ n
-number-answer zero = refl
-number-answer (suc n) = refl
-
 -- no answer is a refusal with number 0
 pub never-refused-0 : (n : ℕ) → answerOf n ≡ Refused 0 → ⊥
 never-refused-0 zero e = let z : _≡_ {A = ℕ} 0 1 = cc in omega arith

@@ -1,8 +1,8 @@
 -- The arithmetic of the drift figure. P is 8 to the power m, for picture m + 1: reads stand at the scale P, a direction's sample at 4 P, a predicted one
 -- at 8 P.
 -- Assumes nothing.
-use mathlib.Core.Path.{_≡_, refl, sym, ap, _∙_, subst}
-use Prim.Native.Nat.{ℕ, zero, suc, _+_, _*_, _-_, _/_, _^_, _≤_, _<_}
+use mathlib.Core.Path.{_≡_, sym, ap, _∙_, subst}
+use Prim.Native.Nat.{ℕ, suc, _+_, _*_, _-_, _^_, _≤_}
 use native.Mathlib.Nat.{mul-add, mul-assoc, mul-comm, mul-le-mul-left, mul-le-mul-right, mul-one, mul-left-comm, pow-succ', mul-zero, suc-mul}
 use native.Mathlib.Omega.{arith}
 use lib.Pow.{pow-add}

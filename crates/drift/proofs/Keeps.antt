@@ -5,7 +5,7 @@ use mathlib.Core.Bool.{Bool, true, false}
 use mathlib.Core.List.{List}
 use Prim.Native.Nat.{ℕ, _+_, _*_, _/_, _%_}
 use lib.IntN.{ℤ, pos, _+ℤ_}
-use Rattle.laws.proofs.Related.{Related, related-tab, related-append}
+use Rattle.laws.proofs.Related.{Related, related-tab, related-append, related-take, related-drop}
 use Rattle.forming_predictions.specs.Splitting.{floorHalf, halfFlag}
 use Rattle.forming_predictions.specs.Lines.{Lines, frame, field}
 use Rattle.forming_predictions.specs.Means.{Means}
@@ -22,7 +22,7 @@ use Rattle.inter_reconstruction.specs.declared.motion.DirectionMotion.{Directio
 use Rattle.inter_reconstruction.specs.declared.motion.DirectionMotion.the-variants.{Frame, Field}
 use Rattle.inter_reconstruction.specs.declared.motion.Uses.{Uses}
 use Rattle.inter_reconstruction.specs.declared.motion.Uses.the-variants.{Forward, Backward, Both}
-use Rattle.drift.proofs.Lists.{related-take, related-drop, related-stored}
+use Rattle.drift.proofs.Lists.{related-stored}
 
 -- reads related by R give samples of a direction related by S, and these predicted samples related by P
 pub record Keeps (a b : Means) (R S P : ℕ → ℕ → Type 0) : Type 0 where

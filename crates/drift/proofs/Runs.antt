@@ -16,7 +16,7 @@ use Rattle.combine_predictions.specs.Refusals.{unlessRefused}
 use Rattle.forming_predictions.specs.Lines.{Lines, placeOf, sampleAt}
 use Rattle.forming_predictions.specs.Means.{rounded}
 use Rattle.inter_reconstruction.specs.Components.{ColourComponent}
-use Rattle.inter_reconstruction.specs.Frames.{planeOf, readFrame, readReference}
+use Rattle.inter_reconstruction.specs.Frames.{planeOf, readReference}
 use Rattle.inter_reconstruction.specs.declared.frames.FrameGeometry.{FrameGeometry}
 use Rattle.drift.specs.Steps.{Step, stepUses, Pictures, replaced, fitting, reference, referenceSamples, prediction, placement, afterStep, afterSteps}
 use Rattle.drift.specs.Unrounded.{unrounded, tableRefusal, unroundedReading, unroundedPrediction, unroundedPlacement, afterUnrounded, afterUnroundedSteps, inUnits}

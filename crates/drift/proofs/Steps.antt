@@ -1,8 +1,7 @@
 -- On pictures whose planes fit, a step by the two calls does what the table says: nothing, or the macroblock in its cell.
 -- Assumes nothing.
-use mathlib.Core.Path.{_≡_, refl, sym, ap, _∙_, fun-ext}
+use mathlib.Core.Path.{_≡_, refl, ap, _∙_, fun-ext}
 use mathlib.Core.Bool.{Bool, true, false, cond}
-use mathlib.Core.List.{List}
 use mathlib.Core.Option.{Option, none, some}
 use Prim.Native.Nat.{ℕ, zero, suc, _≤_}
 use native.Mathlib.Omega.{arith}
@@ -11,8 +10,8 @@ use lib.ListN.{length, length-append}
 use Rattle.combine_predictions.specs.Refusals.{orElse, unlessRefused}
 use Rattle.forming_predictions.specs.Means.{Means, rounded}
 use Rattle.pmv.specs.declared.kinds.ChromaFormat.{ChromaFormat}
-use Rattle.inter_reconstruction.specs.Components.{ColourComponent, luma, cb, cr, macroblockBytes}
-use Rattle.inter_reconstruction.specs.Frames.{Samples, lengthsOf, Reading}
+use Rattle.inter_reconstruction.specs.Components.{ColourComponent, macroblockBytes}
+use Rattle.inter_reconstruction.specs.Frames.{lengthsOf, Reading}
 use Rattle.inter_reconstruction.specs.Macroblock.{macroblock, predicted}
 use Rattle.inter_reconstruction.specs.Refusals.{planesRefusal, referencesRefusal, predictionRefusal}
 use Rattle.inter_reconstruction.specs.Placing.{placingRefusal}

@@ -16,9 +16,6 @@ pub record Begun (front d o : List ℕ) : Type 0 where
   pub within : length front ≤ length d
   pub is : o ≡ front ++ drop (length front) d
 
-pub begun-none : (d : List ℕ) → Begun [] d d
-begun-none d = record { within = omega arith; is = refl }
-
 pub begun-length : {front d o : List ℕ} → Begun front d o → length o ≡ length d
 begun-length {front} {d} {o} h =
     omega (arith, ap length (h .is), length-append front (drop (length front) d), length-drop (length front) d, h .within)

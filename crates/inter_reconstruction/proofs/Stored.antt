@@ -2,12 +2,12 @@
 -- Assumes nothing.
 use mathlib.Core.Path.{_≡_, refl, sym, ap, _∙_}
 use mathlib.Core.List.{List, [], _∷_, _++_, append-assoc}
-use Prim.Native.Nat.{ℕ, zero, suc, _+_, _-_, _*_, _/_, _%_, _≤_, _<_}
-use native.Mathlib.Nat.{zero-add, suc-add, mul-comm, zero-mul, suc-mul, mod-lt, add-assoc, mul-le-mul-right, div-add-mod'}
+use Prim.Native.Nat.{ℕ, zero, suc, _+_, _-_, _*_, _≤_, _<_}
+use native.Mathlib.Nat.{zero-add, suc-add, mul-comm, zero-mul, suc-mul, add-assoc, mul-le-mul-right}
 use native.Mathlib.Numerals.{add-one}
 use native.Mathlib.Omega.{arith}
 use lib.Arith.{digits-div, digits-mod}
-use lib.ListN.{length, getD, set, take, drop, length-set, length-append}
+use lib.ListN.{length, getD, set, take, drop, length-set}
 use lib.Seq.{sets, sets-eq, drop-drop, take-add, length-take-le, getD-set-same, getD-set-other, take-length}
 use borrow.Rule.Slice.PartMut.{putMid}
 use Rattle.laws.proofs.Parts.{part-length}

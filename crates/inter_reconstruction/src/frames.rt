@@ -5,7 +5,6 @@ use pmv::kinds::ChromaFormat;
 ghost use mathlib.Core.Path.{_≡_};
 ghost use Rattle.inter_reconstruction.specs.Components.{blockWidth, blockHeight, cb};
 ghost use Rattle.inter_reconstruction.specs.Frames.{isPresent};
-ghost use Rattle.inter_reconstruction.specs.inner.Blocks.{ChromaSides};
 
 /// What a frame declares.
 pub struct FrameGeometry {

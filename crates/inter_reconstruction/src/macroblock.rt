@@ -10,6 +10,7 @@ use crate::motion::FieldVectorPair;
 use crate::motion::FrameMotion;
 use crate::motion::MotionVectorPel;
 use crate::motion::Uses;
+use crate::samples::copy_samples;
 use combine_predictions::PredictionDirection;
 use combine_predictions::WRONG_LENGTH;
 use combine_predictions::average_predictions;
@@ -121,17 +122,6 @@ fn predict_lines(
         v.vertical,
         out,
     );
-}
-
-fn copy_samples(from: &[u8], out: &mut [u8])
-    requires { ⌜ length (now out) ≡ length (now from) ⌝ }
-    ensures { λ r. ⌜ now (out .exit) ≡ now (from .entry) ⌝ }
-{
-    let mut k: usize = 0;
-    while k < out.len() {
-        out[k] = from[k];
-        k += 1;
-    }
 }
 
 /// A row of 8 or 16, by eights: a copy of a fixed length is one load and one store, and no call.

@@ -49,16 +49,3 @@ up-is {w} z f e = rw (cast-val f e) (eq-z (pos (zp z)) z (omega arith))
 -- `x == y` goes by the bits: equal bits are equal numbers
 pub eq-bits : {w : Width} {x y : ℤ} → SFits w x → SFits w y → ofZ w x ≡ ofZ w y → x ≡ y
 eq-bits {w} {x} {y} f g e = sym (toZ-ofZ f) ∙ ap (toZ w) e ∙ toZ-ofZ g
-
--- the test `x == y` is the one of both orders
-pub eqb-bits : (w : Width) (x y : ℤ) → SFits w x → SFits w y → eqb (ofZ w x) (ofZ w y) ≡ (leZ x y && leZ y x)
-eqb-bits w x y f g = at (eqb (ofZ w x) (ofZ w y)) refl
-  where
-    both : (a b : Bool) → leZ x y ≡ a → leZ y x ≡ b → eqb (ofZ w x) (ofZ w y) ≡ false → false ≡ (a && b)
-    both true true p q e = absurd (eqb-false _ _ e (ap (ofZ w) (eq-z x y (omega (arith, le-yes x y p, le-yes y x q)))))
-    both true false p q e = refl
-    both false b p q e = refl
-
-    at : (t : Bool) → eqb (ofZ w x) (ofZ w y) ≡ t → t ≡ (leZ x y && leZ y x)
-    at true e = let q = eq-bits f g (eqb-true _ _ e) in rw (q, yes-le y y (omega arith))
-    at false e = both (leZ x y) (leZ y x) refl refl e

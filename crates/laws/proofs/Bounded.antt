@@ -50,12 +50,6 @@ within-quot {z = pos a} p = let u = quot-p (pos a) in let d = quot-n (pos a) in 
 within-quot {z = negsuc a} p =
     let u = quot-p (negsuc a) in let d = quot-n (negsuc a) in record { above = omega arith; below = omega arith }
 
--- a number between two others
-pub within-between : {n : ℕ} {x y : ℤ} (z : ℤ)
-    → Within n x → Within n y → ltZ z x ≡ false → ltZ y z ≡ false → Within n z
-within-between {x = x} {y = y} z p q s t =
-    let h = lt-no z x s in let k = lt-no y z t in record { above = omega arith; below = omega arith }
-
 -- a weaker bound
 pub within-more : {m n : ℕ} {z : ℤ} → Within m z → m ≤ n → Within n z
 within-more p h = record { above = omega arith; below = omega arith }

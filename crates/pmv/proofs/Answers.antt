@@ -78,9 +78,6 @@ pub delta-no : (n m : ℕ) (d : ℤ) → n ≡ m → (n ≡ 0 → ⊥) → D.Ref
 delta-no zero m d e h = absurd (h refl)
 delta-no (suc n) m d e h = rw (← e)
 
-pub delta-yes : (m : ℕ) (v d : ℤ) → m ≡ 0 → v ≡ d → D.Delta v ≡ deltaAnswer m d
-delta-yes m v d e h = rw (e, h)
-
 pub delta-refused : (m : ℕ) (d : ℤ) (n : ℕ) → D.Refused n ≡ deltaAnswer m d → (m ≡ n) × (m ≡ 0 → ⊥)
 delta-refused m d n e = refused deltaAnswer deltaNumber deltaValue delta-parts (D.Refused n) n m d e refl refl
 

@@ -1,7 +1,7 @@
 -- f_code, motion_code and delta: how large they are, and when each of 1 to 4 is given.
 -- Assumes nothing.
 use mathlib.Core.Path.{_≡_, refl, sym, _∙_}
-use mathlib.Core.Bool.{Bool, true, false, not, _&&_, _||_}
+use mathlib.Core.Bool.{Bool, true, false, _&&_, _||_}
 use Prim.Native.Nat.{ℕ, suc, _-_, _*_, _^_, _≤_}
 use native.Mathlib.Nat.{mul-le-mul, pow-le-pow-right}
 use native.Mathlib.Omega.{arith}

@@ -3,10 +3,10 @@
 -- Assumes nothing.
 use mathlib.Core.Path.{_≡_, refl}
 use mathlib.Core.List.{List, [], _∷_, _++_}
-use mathlib.Core.Option.{Option, none, some}
-use Prim.Native.Nat.{ℕ, zero, suc, _+_, _-_, _*_, _/_, _%_, _^_, _≤_}
+use mathlib.Core.Option.{none, some}
+use Prim.Native.Nat.{ℕ, zero, suc, _+_, _-_, _*_, _/_, _%_, _^_}
 use native.Mathlib.Omega.{arith}
-use lib.IntN.{ℤ, pos, negsuc}
+use lib.IntN.{pos, negsuc}
 use lib.ListN.{getD, replicate}
 use Rattle.laws.specs.All.{All}
 use Rattle.laws.specs.Tabulate.{tabulate}
@@ -15,10 +15,10 @@ use Rattle.forming_predictions.specs.Splitting.{floorHalf, halfFlag}
 use Rattle.forming_predictions.specs.Lines.{fieldLines, clampTo, rowOf, sampleAt}
 use Rattle.forming_predictions.specs.Forming.{combined, formed}
 use Rattle.forming_predictions.specs.Refusals.{planeFits}
-use Rattle.forming_predictions.specs.declared.FieldParity.the-variants.{Top, Bottom}
+use Rattle.forming_predictions.specs.declared.FieldParity.the-variants.{Bottom}
 use Rattle.pmv.specs.Chroma.{truncHalf}
 use Rattle.pmv.specs.declared.kinds.ChromaFormat.the-variants.{Yuv420}
-use Rattle.inter_reconstruction.specs.Components.{ColourComponent, luma, cb, cr}
+use Rattle.inter_reconstruction.specs.Components.{luma, cb, cr}
 use Rattle.inter_reconstruction.specs.Macroblock.{fieldSample, directionSample, usedSample, rectangle, macroblock}
 use Rattle.inter_reconstruction.specs.Refusals.{sameGeometry, planesFit}
 use Rattle.inter_reconstruction.specs.Placing.{stored, pictureFits, wellFormed}

@@ -1,9 +1,8 @@
 -- `draw` ends: the samples that are left fall.
 -- Assumes nothing.
 use Prim.Native.Nat.{_-_}
-use lib.ListN.{length, length-set}
+use lib.ListN.{length}
 use mathlib.Core.Path.{_≡_}
-use native.Mathlib.Omega.{arith}
 use borrow.Author.Needs.{needs}
 use Rattle.replay_inter_reconstruction.proofs.draw.Statement.{statement}
 use Rattle.replay_inter_reconstruction.proofs.draw.Tie as tie

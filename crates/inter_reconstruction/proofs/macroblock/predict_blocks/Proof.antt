@@ -1,7 +1,6 @@
 -- `predict_blocks` meets its contract.
 -- Assumes nothing.
-use mathlib.Core.Path.{_≡_}
-use Prim.Native.Nat.{ℕ, _*_, _≤_}
+use Prim.Native.Nat.{_*_, _≤_}
 use native.Mathlib.Omega.{arith}
 use borrow.Author.Needs.{needs}
 use Rattle.inter_reconstruction.specs.Components.{luma, cb, cr, macroblockBytes}

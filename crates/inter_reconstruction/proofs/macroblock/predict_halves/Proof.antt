@@ -1,8 +1,8 @@
 -- `predict_halves` meets its contract: after f turns the first f fields' lines are in place.
 -- Assumes nothing.
 use mathlib.Core.List.{List, _++_}
-use mathlib.Core.Path.{_≡_, refl, sym, ap, _∙_}
-use Prim.Native.Nat.{ℕ, zero, suc, _+_, _-_, _*_, _≤_, _<_}
+use mathlib.Core.Path.{_≡_, sym, _∙_}
+use Prim.Native.Nat.{ℕ, zero, suc, _+_, _-_, _*_, _<_}
 use native.Mathlib.Nat.{zero-mul, one-mul, zero-add}
 use native.Mathlib.Omega.{arith}
 use lib.ListN.{length, length-append, getD, List·getD-append}

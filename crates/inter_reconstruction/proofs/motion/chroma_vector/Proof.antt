@@ -4,7 +4,6 @@ use mir.Facts.{toZ-ofZ}
 use mir.Syntax.{w32}
 use mir.Val.{SFits}
 use borrow.Author.Needs.{needs}
-use Rattle.pmv.specs.Chroma.{scaled}
 use Rattle.inter_reconstruction.proofs.motion.chroma_vector.Statement.{statement}
 use Rattle.inter_reconstruction.proofs.motion.chroma_vector.Tie as tie
 use Rattle.pmv.specs.Chroma.{scaled}

@@ -1,7 +1,7 @@
 -- `place_planes` meets its contract.
 -- Assumes nothing.
-use mathlib.Core.Path.{_≡_, refl, ap, _∙_}
-use Prim.Native.Nat.{ℕ, _+_, _*_, _≤_}
+use mathlib.Core.Path.{_≡_, refl, _∙_}
+use Prim.Native.Nat.{_+_, _*_, _≤_}
 use native.Mathlib.Omega.{arith}
 use lib.ListN.{length}
 use borrow.Author.Needs.{needs}
@@ -10,7 +10,6 @@ use Rattle.inter_reconstruction.specs.Components.{luma, cb, cr}
 use Rattle.inter_reconstruction.specs.Frames.{samplesOf}
 use Rattle.inter_reconstruction.specs.inner.Planes.{CellFits}
 use Rattle.inter_reconstruction.proofs.Cells.{chroma-small, chroma-left, chroma-top, chroma-total}
-use Rattle.inter_reconstruction.proofs.Stored.{stored-length}
 use Rattle.inter_reconstruction.proofs.Places.{few-columns, few-rows, room-as, placed-as, part-cb, part-cr, planes-are}
 use Rattle.inter_reconstruction.proofs.placing.place_planes.Statement.{statement}
 use Rattle.inter_reconstruction.proofs.placing.place_planes.Tie as tie

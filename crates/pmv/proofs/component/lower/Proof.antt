@@ -1,6 +1,6 @@
 -- `lower` meets its contract.
 -- Assumes nothing.
-use mathlib.Core.Path.{_≡_, refl, _∙_}
+use mathlib.Core.Path.{_≡_, refl}
 use native.Mathlib.Omega.{arith}
 use lib.IntN.{_-ℤ_}
 use lib.Signed.{ltZ, leZ}
