@@ -1,38 +1,26 @@
 //! ISO/IEC 13818-2, 7.6.4: forming predictions. A motion vector in half samples leads to one, two or four samples of a reference frame
 //! or field; a predicted sample is their rounded mean.
-use crate::samples::form_sample;
-use crate::samples::sample_at;
-use crate::view_blocks::form;
 use combine_predictions::WRONG_LENGTH;
+use combine_predictions::average_predictions;
 ghost use mathlib.Core.Path.{_≡_};
 ghost use mathlib.Core.Bool.{not, _||_};
-ghost use Prim.Native.Nat.{_≤_};
-ghost use lib.IntN.{_+ℤ_};
-ghost use lib.ListN.{length};
+ghost use Prim.Native.Nat.{ℕ, _+_, _*_, _/_, _%_, _≤_, _<_};
+ghost use lib.IntN.{ℤ, pos, _+ℤ_};
+ghost use lib.Dec.{eqb};
+ghost use lib.ListN.{length, getD};
+ghost use Rattle.laws.specs.Tabulate.{tabulate};
 ghost use Rattle.laws.proofs.Bounded.{Within};
 ghost use Rattle.combine_predictions.specs.Refusals.{cause, unlessRefused};
+ghost use Rattle.combine_predictions.specs.Averaging.{mean2, averaged};
 ghost use Rattle.forming_predictions.specs.declared.FieldParity.the-variants.{Bottom};
 ghost use Rattle.forming_predictions.specs.Splitting.{floorHalf, halfFlag, IsSplit, horizontalHalf, verticalHalf};
-ghost use Rattle.forming_predictions.specs.Lines.{frame, field, fieldLines, sampleAt};
-ghost use Rattle.forming_predictions.specs.Means.{rounded};
-ghost use Rattle.forming_predictions.specs.Forming.{formed, predictedBlock};
+ghost use Rattle.forming_predictions.specs.Lines.{frame, field, fieldLines, clampTo, sampleAt};
+ghost use Rattle.forming_predictions.specs.Means.{mean4, rounded};
+ghost use Rattle.forming_predictions.specs.Forming.{formed, blockOf, predictedBlock};
 ghost use Rattle.forming_predictions.specs.Refusals.{outsideDomain, planeFits, positionFits, blockSideFits, planeRefusal, sampleRefusal, blockRefusal};
 ghost use Rattle.forming_predictions.specs.SampleAnswers.{sampleNumber, sampleValue, valueUnless, sampleAnswer};
 ghost use Rattle.forming_predictions.specs.BlockAnswers.{blockNumber, blockAnswer};
-ghost use Rattle.forming_predictions.specs.inner.Views.{Reach, RowsFit, ReadsAs, rowsSample, bitOf};
-
-/// One sample: a view of a plane is read line by line, clamped, and a predicted sample is a mean.
-mod samples;
-/// Rows of 8 or 16 predicted samples, out of two rows of a plane.
-mod kernels;
-/// Blocks of 8 or 16 columns whose reads all lie inside.
-mod inside;
-/// Blocks of 8 or 16 columns that reach past an edge.
-mod edges;
-/// Blocks of other widths than 8 and 16. No macroblock has one; document 01's domain has.
-mod other_widths;
-/// A block of a view: of any width, anywhere.
-mod view_blocks;
+ghost use Rattle.forming_predictions.specs.inner.Views.{lineStart, viewRead, spread, twoOf, fourOf, lineCell, pickedOf, picked, columnAt, viewBlock, ViewFits, Readable, BlockFits, Eights, RowFits, Inside, ColumnsFit, FetchFits, RegionFits, insideOf, Steps, Reach, RowsFit, ReadsAs, rowsSample, bitOf};
 
 /// Refusal: a plane's length is not width times height, or a side or a position is outside the domain.
 pub const OUTSIDE_DOMAIN: u8 = 14;
@@ -219,6 +207,23 @@ pub fn split_vector(horizontal: i32, vertical: i32) -> SplitVector
 
 // ---- reading a plane
 
+/// A coordinate, moved into 0..n - 1.
+fn clamp_to(n: usize, v: i32) -> usize
+    ensures { λ r. ⌜ r ≡ clampTo n v ⌝ }
+{
+    if v < 0 {
+        return 0;
+    }
+    let u = v as usize;
+    if u < n {
+        return u;
+    }
+    if n == 0 {
+        return 0;
+    }
+    n - 1
+}
+
 impl FieldReference {
     /// The number of the field's lines. It is a difference for the top field, since `height + 1` may be too large a number.
     pub fn height(self) -> usize
@@ -276,6 +281,995 @@ fn field_rows(reference: FieldReference) -> Rows
         },
         FieldParity::Bottom => bottom_rows(height, count),
     }
+}
+
+/// The place of a line's first sample.
+fn line_start(first: usize, step: usize, width: usize, line: usize) -> usize
+    requires { ⌜ (first ≤ 1) × (step ≤ 2) × (width ≤ 16384) × (line ≤ 16384) ⌝ }
+    ensures { λ r. ⌜ r ≡ lineStart first step width line ⌝ }
+{
+    (first + step * line) * width
+}
+
+/// A coordinate, n further.
+fn shifted(position: i32, n: usize) -> i32
+    requires { ⌜ Steps n position × (n ≤ 17) ⌝ }
+    ensures { λ r. ⌜ r ≡ position +ℤ pos n ⌝ }
+{
+    position + n as i32
+}
+
+/// The sample of a view at (x, y), clamped. Views are passed as numbers: a struct would be passed through memory.
+fn sample_at(
+    samples: &[u8],
+    width: usize,
+    first: usize,
+    step: usize,
+    count: usize,
+    x: i32,
+    y: i32,
+) -> u8
+    requires { ⌜ ViewFits (now samples) width first step count ⌝ }
+    ensures { λ r. ⌜ r ≡ viewRead (now (samples .entry)) width first step count x y ⌝ }
+{
+    let start = line_start(first, step, width, clamp_to(count, y));
+    samples[start + clamp_to(width, x)]
+}
+
+/// The mean of four samples, a half rounded up.
+fn avg4(a: u8, b: u8, c: u8, d: u8) -> u8
+    ensures { λ r. ⌜ r ≡ mean4 a b c d ⌝ }
+{
+    ((a as u16 + b as u16 + c as u16 + d as u16 + 2) / 4) as u8
+}
+
+/// One predicted sample, with a step of `dx` to the right neighbour and of `dy` to the one below. Where a step is 0, samples count twice
+/// or four times, which gives the mean of fewer.
+fn form_sample(
+    samples: &[u8],
+    width: usize,
+    first: usize,
+    step: usize,
+    count: usize,
+    x: i32,
+    y: i32,
+    dx: usize,
+    dy: usize,
+) -> u8
+    requires { ⌜ ViewFits (now samples) width first step count × (dx ≤ 1) × (dy ≤ 1) ⌝ }
+    requires { ⌜ Steps 1 x × Steps 1 y ⌝ }
+    ensures { λ r. ⌜ r ≡ spread (viewRead (now (samples .entry)) width first step count) x y dx dy ⌝ }
+{
+    let right = shifted(x, dx);
+    let below = shifted(y, dy);
+    avg4(
+        sample_at(samples, width, first, step, count, x, y),
+        sample_at(samples, width, first, step, count, right, y),
+        sample_at(samples, width, first, step, count, x, below),
+        sample_at(samples, width, first, step, count, right, below),
+    )
+}
+
+// ---- rows of samples
+
+/// Averaging refuses differing lengths only, and these are equal.
+fn mean2_samples(a: &[u8], b: &[u8], out: &mut [u8])
+    requires { ⌜ (length (now b) ≡ length (now a)) × (length (now out) ≡ length (now a)) ⌝ }
+    ensures { λ r. ⌜ now (out .exit) ≡ averaged (now (a .entry)) (now (b .entry)) ⌝ }
+{
+    average_predictions(a, b, out);
+}
+
+fn mean4_samples(a: &[u8], b: &[u8], c: &[u8], d: &[u8], out: &mut [u8])
+    requires { ⌜ (length (now b) ≡ length (now a)) × (length (now c) ≡ length (now a)) × (length (now d) ≡ length (now a)) × (length (now out) ≡ length (now a)) ⌝ }
+    ensures { λ r. ⌜ now (out .exit) ≡ tabulate (length (now (a .entry))) (λ (k : ℕ). mean4 (getD (now (a .entry)) k 0) (getD (now (b .entry)) k 0) (getD (now (c .entry)) k 0) (getD (now (d .entry)) k 0)) ⌝ }
+{
+    let mut k: usize = 0;
+    while k < out.len() {
+        out[k] = avg4(a[k], b[k], c[k], d[k]);
+        k += 1;
+    }
+}
+
+/// The loop has a fixed length, so that it is unrolled before `from` is known to be a local array; copied as a whole, the eight samples
+/// would be one number, put together sample by sample.
+fn copy_eight(from: &[u8], out: &mut [u8])
+    requires { ⌜ (length (now from) ≡ 8) × (length (now out) ≡ 8) ⌝ }
+    ensures { λ r. ⌜ now (out .exit) ≡ now (from .entry) ⌝ }
+{
+    let mut k: usize = 0;
+    while k < 8 {
+        out[k] = from[k];
+        k += 1;
+    }
+}
+
+/// The same for sixteen.
+fn copy_sixteen(from: &[u8], out: &mut [u8])
+    requires { ⌜ (length (now from) ≡ 16) × (length (now out) ≡ 16) ⌝ }
+    ensures { λ r. ⌜ now (out .exit) ≡ now (from .entry) ⌝ }
+{
+    let mut k: usize = 0;
+    while k < 16 {
+        out[k] = from[k];
+        k += 1;
+    }
+}
+
+/// Eight means of two samples. They go through a local array: there the loop has a fixed length and writes nothing that it might read, and
+/// it compiles to one instruction.
+fn two_eight(row: &[u8], below: &[u8], x: usize, dx: usize, out: &mut [u8])
+    requires { ⌜ RowFits (now row) (now below) x dx 8 × (length (now out) ≡ 8) ⌝ }
+    ensures { λ r. ⌜ now (out .exit) ≡ tabulate 8 (twoOf (now (row .entry)) (now (below .entry)) x dx) ⌝ }
+{
+    let right = x + dx;
+    let e = x + 8;
+    let f = right + 8;
+    let mut local = [0u8; 8];
+    mean2_samples(&row[x..e], &below[right..f], &mut local);
+    copy_eight(&local, out);
+}
+
+/// Sixteen means of two samples, likewise.
+fn two_sixteen(row: &[u8], below: &[u8], x: usize, dx: usize, out: &mut [u8])
+    requires { ⌜ RowFits (now row) (now below) x dx 16 × (length (now out) ≡ 16) ⌝ }
+    ensures { λ r. ⌜ now (out .exit) ≡ tabulate 16 (twoOf (now (row .entry)) (now (below .entry)) x dx) ⌝ }
+{
+    let right = x + dx;
+    let e = x + 16;
+    let f = right + 16;
+    let mut local = [0u8; 16];
+    mean2_samples(&row[x..e], &below[right..f], &mut local);
+    copy_sixteen(&local, out);
+}
+
+/// The mean of four samples from the means of its two pairs and the mean of those. That one rounds twice: it is 1 too large where the mean
+/// of a pair was rounded up, and it again.
+fn avg4_of_pairs(a: u8, b: u8, c: u8, d: u8, upper: u8, lower: u8, mean: u8) -> u8
+    requires { ⌜ (upper ≡ mean2 a b) × (lower ≡ mean2 c d) × (mean ≡ mean2 upper lower) ⌝ }
+    ensures { λ r. ⌜ r ≡ mean4 a b c d ⌝ }
+{
+    mean - (((a ^ b) | (c ^ d)) & (upper ^ lower) & 1)
+}
+
+/// Sixteen of these.
+fn sixteen_of_pairs(
+    a: &[u8],
+    b: &[u8],
+    c: &[u8],
+    d: &[u8],
+    upper: &[u8],
+    lower: &[u8],
+    mean: &[u8],
+    out: &mut [u8],
+)
+    requires { ⌜ (length (now a) ≡ 16) × (length (now b) ≡ 16) × (length (now c) ≡ 16) × (length (now d) ≡ 16) × (length (now out) ≡ 16) ⌝ }
+    requires { ⌜ (now upper ≡ averaged (now a) (now b)) × (now lower ≡ averaged (now c) (now d)) × (now mean ≡ averaged (now upper) (now lower)) ⌝ }
+    ensures { λ r. ⌜ now (out .exit) ≡ tabulate (length (now (a .entry))) (λ (k : ℕ). mean4 (getD (now (a .entry)) k 0) (getD (now (b .entry)) k 0) (getD (now (c .entry)) k 0) (getD (now (d .entry)) k 0)) ⌝ }
+{
+    let mut k: usize = 0;
+    while k < 16 {
+        out[k] = avg4_of_pairs(a[k], b[k], c[k], d[k], upper[k], lower[k], mean[k]);
+        k += 1;
+    }
+}
+
+/// Eight means of four samples, likewise.
+fn four_eight(row: &[u8], below: &[u8], x: usize, dx: usize, out: &mut [u8])
+    requires { ⌜ RowFits (now row) (now below) x dx 8 × (length (now out) ≡ 8) ⌝ }
+    ensures { λ r. ⌜ now (out .exit) ≡ tabulate 8 (fourOf (now (row .entry)) (now (below .entry)) x dx) ⌝ }
+{
+    let right = x + dx;
+    let e = x + 8;
+    let f = right + 8;
+    let mut local = [0u8; 8];
+    mean4_samples(
+        &row[x..e],
+        &row[right..f],
+        &below[x..e],
+        &below[right..f],
+        &mut local,
+    );
+    copy_eight(&local, out);
+}
+
+/// Sixteen means of four samples. A mean of two is one instruction for all sixteen, and these are formed of such means.
+fn four_sixteen(row: &[u8], below: &[u8], x: usize, dx: usize, out: &mut [u8])
+    requires { ⌜ RowFits (now row) (now below) x dx 16 × (length (now out) ≡ 16) ⌝ }
+    ensures { λ r. ⌜ now (out .exit) ≡ tabulate 16 (fourOf (now (row .entry)) (now (below .entry)) x dx) ⌝ }
+{
+    let right = x + dx;
+    let e = x + 16;
+    let f = right + 16;
+    let mut upper = [0u8; 16];
+    let mut lower = [0u8; 16];
+    let mut mean = [0u8; 16];
+    let mut local = [0u8; 16];
+    mean2_samples(&row[x..e], &row[right..f], &mut upper);
+    mean2_samples(&below[x..e], &below[right..f], &mut lower);
+    mean2_samples(&upper, &lower, &mut mean);
+    sixteen_of_pairs(
+        &row[x..e],
+        &row[right..f],
+        &below[x..e],
+        &below[right..f],
+        &upper,
+        &lower,
+        &mean,
+        &mut local,
+    );
+    copy_sixteen(&local, out);
+}
+
+/// Eight predicted samples out of two rows of the plane, which are one where `dy` is 0. Unless both steps are 1, two samples are enough.
+fn eight_row(row: &[u8], below: &[u8], x: usize, dx: usize, dy: usize, out: &mut [u8])
+    requires { ⌜ RowFits (now row) (now below) x dx 8 × (dx ≤ 1) × (dy ≤ 1) × (dy ≡ 0 → now below ≡ now row) × (length (now out) ≡ 8) ⌝ }
+    ensures { λ r. ⌜ now (out .exit) ≡ tabulate 8 (fourOf (now (row .entry)) (now (below .entry)) x dx) ⌝ }
+{
+    if dx + dy == 2 {
+        four_eight(row, below, x, dx, out);
+        return;
+    }
+    two_eight(row, below, x, dx, out);
+}
+
+/// Sixteen, likewise.
+fn sixteen_row(row: &[u8], below: &[u8], x: usize, dx: usize, dy: usize, out: &mut [u8])
+    requires { ⌜ RowFits (now row) (now below) x dx 16 × (dx ≤ 1) × (dy ≤ 1) × (dy ≡ 0 → now below ≡ now row) × (length (now out) ≡ 16) ⌝ }
+    ensures { λ r. ⌜ now (out .exit) ≡ tabulate 16 (fourOf (now (row .entry)) (now (below .entry)) x dx) ⌝ }
+{
+    if dx + dy == 2 {
+        four_sixteen(row, below, x, dx, out);
+        return;
+    }
+    two_sixteen(row, below, x, dx, out);
+}
+
+/// A row of 8 or 16 predicted samples. The width is asked for first: where the pattern is, the compiler joins what the widths have in common
+/// and takes it apart sample by sample.
+fn form_row(row: &[u8], below: &[u8], x: usize, dx: usize, dy: usize, out: &mut [u8])
+    requires { ⌜ RowFits (now row) (now below) x dx (length (now out)) × (dx ≤ 1) × (dy ≤ 1) × (dy ≡ 0 → now below ≡ now row) × Eights (length (now out)) ⌝ }
+    ensures { λ r. ⌜ now (out .exit) ≡ tabulate (length (now (out .entry))) (fourOf (now (row .entry)) (now (below .entry)) x dx) ⌝ }
+{
+    if out.len() == 16 {
+        sixteen_row(row, below, x, dx, dy, out);
+        return;
+    }
+    eight_row(row, below, x, dx, dy, out);
+}
+
+/// A row of a block from line y on: the plane's rows are handed on as parts of its bytes.
+fn form_line(
+    samples: &[u8],
+    width: usize,
+    first: usize,
+    step: usize,
+    count: usize,
+    x: usize,
+    y: usize,
+    dx: usize,
+    dy: usize,
+    out: &mut [u8],
+)
+    requires { ⌜ ViewFits (now samples) width first step count × Inside width count x y dx dy (length (now out)) 1 × (dx ≤ 1) × (dy ≤ 1) × Eights (length (now out)) ⌝ }
+    ensures { λ r. ⌜ now (out .exit) ≡ tabulate (length (now (out .entry))) (lineCell (now (samples .entry)) width first step count (pos x) (pos y) dx dy) ⌝ }
+{
+    let a = line_start(first, step, width, y);
+    let b = line_start(first, step, width, y + dy);
+    let e = a + width;
+    let f = b + width;
+    form_row(&samples[a..e], &samples[b..f], x, dx, dy, out);
+}
+
+/// Eight rows of eight, `stride` places apart, of two samples each, the second one `gap` places after the first. The number of rows is
+/// fixed, so that the loop is unrolled.
+fn two_square(samples: &[u8], start: usize, gap: usize, stride: usize, out: &mut [u8])
+    requires { ⌜ (start + 7 * stride + gap + 8 ≤ length (now samples)) × (stride ≤ 32768) × (length (now out) ≡ 64) ⌝ }
+    ensures { λ r. ⌜ now (out .exit) ≡ tabulate 64 (λ (k : ℕ). twoOf (now (samples .entry)) (now (samples .entry)) (start + k / 8 * stride) gap (k % 8)) ⌝ }
+{
+    let mut s = start;
+    let mut r: usize = 0;
+    while r < 8 {
+        let o = r * 8;
+        let e = o + 8;
+        two_eight(samples, samples, s, gap, &mut out[o..e]);
+        s += stride;
+        r += 1;
+    }
+}
+
+/// A block of 8 × 8 whose reads all lie inside, unless both steps are 1. Where both are 0, the compiler sees that the two samples are one,
+/// and copies.
+fn form_square(
+    samples: &[u8],
+    width: usize,
+    first: usize,
+    step: usize,
+    count: usize,
+    x: usize,
+    y: usize,
+    dx: usize,
+    dy: usize,
+    out: &mut [u8],
+)
+    requires { ⌜ ViewFits (now samples) width first step count × Inside width count x y dx dy 8 8 × (dx + dy ≤ 1) × (length (now out) ≡ 64) ⌝ }
+    ensures { λ r. ⌜ now (out .exit) ≡ viewBlock (now (samples .entry)) width first step count (pos x) (pos y) dx dy 8 8 ⌝ }
+{
+    let start = line_start(first, step, width, y) + x;
+    let stride = step * width;
+    if dx + dy == 0 {
+        two_square(samples, start, 0, stride, out);
+        return;
+    }
+    two_square(samples, start, dx + dy * stride, stride, out);
+}
+
+/// A block of 8 or 16 columns whose reads all lie inside: nothing is clamped.
+fn form_inside(
+    samples: &[u8],
+    width: usize,
+    first: usize,
+    step: usize,
+    count: usize,
+    x: usize,
+    y: usize,
+    dx: usize,
+    dy: usize,
+    block_width: usize,
+    block_height: usize,
+    out: &mut [u8],
+)
+    requires { ⌜ ViewFits (now samples) width first step count × BlockFits dx dy «block_width» «block_height» (now out) × Inside width count x y dx dy «block_width» «block_height» × Eights «block_width» ⌝ }
+    ensures { λ r. ⌜ now (out .exit) ≡ viewBlock (now (samples .entry)) width first step count (pos x) (pos y) dx dy «block_width» «block_height» ⌝ }
+{
+    if ((block_width == 8) & (block_height == 8)) & (dx + dy <= 1) {
+        form_square(samples, width, first, step, count, x, y, dx, dy, out);
+        return;
+    }
+    let mut r: usize = 0;
+    while r < block_height {
+        let o = r * block_width;
+        let e = o + block_width;
+        form_line(
+            samples,
+            width,
+            first,
+            step,
+            count,
+            x,
+            y + r,
+            dx,
+            dy,
+            &mut out[o..e],
+        );
+        r += 1;
+    }
+}
+
+// ---- blocks that reach past an edge
+
+/// The columns that a block reads, clamped.
+fn clamp_columns(width: usize, x: i32, columns: &mut [usize])
+    requires { ⌜ Reach x × (length (now columns) ≤ 17) ⌝ }
+    ensures { λ r. ⌜ now (columns .exit) ≡ tabulate (length (now (columns .entry))) (columnAt width x) ⌝ }
+{
+    let mut k: usize = 0;
+    while k < columns.len() {
+        columns[k] = clamp_to(width, shifted(x, k));
+        k += 1;
+    }
+}
+
+fn pick_eight(row: &[u8], columns: &[usize], out: &mut [u8])
+    requires { ⌜ ColumnsFit (now columns) (length (now row)) × (length (now columns) ≡ 8) × (length (now out) ≡ 8) ⌝ }
+    ensures { λ r. ⌜ now (out .exit) ≡ tabulate 8 (pickedOf (now (row .entry)) (now (columns .entry))) ⌝ }
+{
+    let mut k: usize = 0;
+    while k < 8 {
+        out[k] = row[columns[k]];
+        k += 1;
+    }
+}
+
+/// The samples of a row in 8 or 16 columns, or in one more.
+fn pick_columns(row: &[u8], columns: &[usize], out: &mut [u8])
+    requires { ⌜ ColumnsFit (now columns) (length (now row)) × (length (now out) ≡ length (now columns)) ⌝ }
+    ensures { λ r. ⌜ now (out .exit) ≡ tabulate (length (now (out .entry))) (pickedOf (now (row .entry)) (now (columns .entry))) ⌝ }
+{
+    let n = out.len();
+    pick_eight(row, &columns[0..8], &mut out[0..8]);
+    if n == 8 {
+        return;
+    }
+    if n == 9 {
+        out[8] = row[columns[8]];
+        return;
+    }
+    pick_eight(row, &columns[8..16], &mut out[8..16]);
+    if n == 16 {
+        return;
+    }
+    out[16] = row[columns[16]];
+}
+
+/// The samples of one line in these columns.
+fn fetch_line(
+    samples: &[u8],
+    width: usize,
+    first: usize,
+    step: usize,
+    count: usize,
+    columns: &[usize],
+    y: i32,
+    out: &mut [u8],
+)
+    requires { ⌜ ViewFits (now samples) width first step count × ColumnsFit (now columns) width × (length (now out) ≡ length (now columns)) ⌝ }
+    ensures { λ r. ⌜ now (out .exit) ≡ tabulate (length (now (out .entry))) (picked (now (samples .entry)) width first step count (now (columns .entry)) y) ⌝ }
+{
+    let a = line_start(first, step, width, clamp_to(count, y));
+    let e = a + width;
+    pick_columns(&samples[a..e], columns, out);
+}
+
+/// The samples of `height` lines in these columns, from line y on.
+fn fetch_lines(
+    samples: &[u8],
+    width: usize,
+    first: usize,
+    step: usize,
+    count: usize,
+    columns: &[usize],
+    y: i32,
+    height: usize,
+    out: &mut [u8],
+)
+    requires { ⌜ ViewFits (now samples) width first step count × ColumnsFit (now columns) width × Reach y × (height ≤ 17) × (length (now out) ≡ length (now columns) * height) ⌝ }
+    ensures { λ r. ⌜ now (out .exit) ≡ tabulate (length (now (columns .entry)) * height) (λ (k : ℕ). picked (now (samples .entry)) width first step count (now (columns .entry)) (y +ℤ pos (k / length (now (columns .entry)))) (k % length (now (columns .entry)))) ⌝ }
+{
+    let n = columns.len();
+    let mut r: usize = 0;
+    while r < height {
+        let o = r * n;
+        let e = o + n;
+        fetch_line(
+            samples,
+            width,
+            first,
+            step,
+            count,
+            columns,
+            shifted(y, r),
+            &mut out[o..e],
+        );
+        r += 1;
+    }
+}
+
+/// A block that reaches past an edge: what it reads is copied to `region`, and nothing is outside there.
+fn form_region(
+    samples: &[u8],
+    width: usize,
+    first: usize,
+    step: usize,
+    count: usize,
+    columns: &[usize],
+    y: i32,
+    dx: usize,
+    dy: usize,
+    block_width: usize,
+    block_height: usize,
+    region: &mut [u8],
+    out: &mut [u8],
+)
+    requires { ⌜ ViewFits (now samples) width first step count × ColumnsFit (now columns) width × Reach y × Eights «block_width» ⌝ }
+    requires { ⌜ BlockFits dx dy «block_width» «block_height» (now out) × RegionFits (now columns) (now region) dx dy «block_width» «block_height» ⌝ }
+    ensures { λ r. ⌜ ((x : ℤ) → now (columns .entry) ≡ tabulate («block_width» + dx) (columnAt width x) → now (out .exit) ≡ viewBlock (now (samples .entry)) width first step count x y dx dy «block_width» «block_height») ⌝ }
+{
+    let w = block_width + dx;
+    let h = block_height + dy;
+    fetch_lines(samples, width, first, step, count, columns, y, h, region);
+    form_inside(
+        region,
+        w,
+        0,
+        1,
+        h,
+        0,
+        0,
+        dx,
+        dy,
+        block_width,
+        block_height,
+        out,
+    );
+}
+
+/// A block that reaches past an edge, with the columns that it may read and room for the samples. Where no sample is a mean, what is
+/// read is the block.
+fn form_fetched(
+    samples: &[u8],
+    width: usize,
+    first: usize,
+    step: usize,
+    count: usize,
+    columns: &[usize],
+    y: i32,
+    dx: usize,
+    dy: usize,
+    block_width: usize,
+    block_height: usize,
+    region: &mut [u8],
+    out: &mut [u8],
+)
+    requires { ⌜ ViewFits (now samples) width first step count × Reach y × Eights «block_width» ⌝ }
+    requires { ⌜ BlockFits dx dy «block_width» «block_height» (now out) × FetchFits (now columns) (now region) width «block_width» ⌝ }
+    ensures { λ r. ⌜ ((x : ℤ) → now (columns .entry) ≡ tabulate («block_width» + 1) (columnAt width x) → now (out .exit) ≡ viewBlock (now (samples .entry)) width first step count x y dx dy «block_width» «block_height») ⌝ }
+{
+    let w = block_width + dx;
+    if dx + dy == 0 {
+        fetch_lines(
+            samples,
+            width,
+            first,
+            step,
+            count,
+            &columns[0..w],
+            y,
+            block_height,
+            out,
+        );
+        return;
+    }
+    let n = w * (block_height + dy);
+    form_region(
+        samples,
+        width,
+        first,
+        step,
+        count,
+        &columns[0..w],
+        y,
+        dx,
+        dy,
+        block_width,
+        block_height,
+        &mut region[0..n],
+        out,
+    );
+}
+
+/// A block of 8 or 16 columns that reaches past an edge, with room for the columns and the samples that it may read.
+fn form_eights(
+    samples: &[u8],
+    width: usize,
+    first: usize,
+    step: usize,
+    count: usize,
+    x: i32,
+    y: i32,
+    dx: usize,
+    dy: usize,
+    block_width: usize,
+    block_height: usize,
+    out: &mut [u8],
+)
+    requires { ⌜ ViewFits (now samples) width first step count × Reach x × Reach y × BlockFits dx dy «block_width» «block_height» (now out) × Eights «block_width» ⌝ }
+    ensures { λ r. ⌜ now (out .exit) ≡ viewBlock (now (samples .entry)) width first step count x y dx dy «block_width» «block_height» ⌝ }
+{
+    if block_width == 8 {
+        let mut columns = [0usize; 9];
+        clamp_columns(width, x, &mut columns);
+        let mut region = [0u8; 153];
+        form_fetched(
+            samples,
+            width,
+            first,
+            step,
+            count,
+            &columns,
+            y,
+            dx,
+            dy,
+            block_width,
+            block_height,
+            &mut region,
+            out,
+        );
+        return;
+    }
+    let mut columns = [0usize; 17];
+    clamp_columns(width, x, &mut columns);
+    let mut region = [0u8; 289];
+    form_fetched(
+        samples,
+        width,
+        first,
+        step,
+        count,
+        &columns,
+        y,
+        dx,
+        dy,
+        block_width,
+        block_height,
+        &mut region,
+        out,
+    );
+}
+
+/// Whether n places from `position` on lie below the limit.
+fn is_inside(position: i32, n: usize, limit: usize) -> bool
+    requires { ⌜ n ≤ 17 ⌝ }
+    ensures { λ r. ⌜ r ≡ insideOf position n limit ⌝ }
+{
+    if position < 0 {
+        return false;
+    }
+    position as usize + n <= limit
+}
+
+// ---- blocks of other widths than 8 and 16
+
+/// A row of fewer than eight.
+fn short_row(row: &[u8], below: &[u8], x: usize, dx: usize, out: &mut [u8])
+    requires { ⌜ RowFits (now row) (now below) x dx (length (now out)) ⌝ }
+    ensures { λ r. ⌜ now (out .exit) ≡ tabulate (length (now (out .entry))) (fourOf (now (row .entry)) (now (below .entry)) x dx) ⌝ }
+{
+    let n = out.len();
+    let right = x + dx;
+    let e = x + n;
+    let f = right + n;
+    mean4_samples(
+        &row[x..e],
+        &row[right..f],
+        &below[x..e],
+        &below[right..f],
+        out,
+    );
+}
+
+/// A row of any width: the first eight and the last eight, which overlap; or fewer, in a loop that is unrolled since it is known to be
+/// short.
+fn any_row(row: &[u8], below: &[u8], x: usize, dx: usize, out: &mut [u8])
+    requires { ⌜ RowFits (now row) (now below) x dx (length (now out)) × (length (now out) ≤ 16) ⌝ }
+    ensures { λ r. ⌜ now (out .exit) ≡ tabulate (length (now (out .entry))) (fourOf (now (row .entry)) (now (below .entry)) x dx) ⌝ }
+{
+    let n = out.len();
+    if n < 8 {
+        short_row(row, below, x, dx, out);
+        return;
+    }
+    let m = n - 8;
+    four_eight(row, below, x, dx, &mut out[0..8]);
+    four_eight(row, below, x + m, dx, &mut out[m..n]);
+}
+
+/// A row of a block from line y on, of any width.
+fn any_line(
+    samples: &[u8],
+    width: usize,
+    first: usize,
+    step: usize,
+    count: usize,
+    x: usize,
+    y: usize,
+    dx: usize,
+    dy: usize,
+    out: &mut [u8],
+)
+    requires { ⌜ ViewFits (now samples) width first step count × Inside width count x y dx dy (length (now out)) 1 × (dx ≤ 1) × (dy ≤ 1) × (length (now out) ≤ 16) ⌝ }
+    ensures { λ r. ⌜ now (out .exit) ≡ tabulate (length (now (out .entry))) (lineCell (now (samples .entry)) width first step count (pos x) (pos y) dx dy) ⌝ }
+{
+    let a = line_start(first, step, width, y);
+    let b = line_start(first, step, width, y + dy);
+    let e = a + width;
+    let f = b + width;
+    any_row(&samples[a..e], &samples[b..f], x, dx, out);
+}
+
+/// A block of any width whose reads all lie inside.
+fn form_any(
+    samples: &[u8],
+    width: usize,
+    first: usize,
+    step: usize,
+    count: usize,
+    x: usize,
+    y: usize,
+    dx: usize,
+    dy: usize,
+    block_width: usize,
+    height: usize,
+    out: &mut [u8],
+)
+    requires { ⌜ ViewFits (now samples) width first step count × BlockFits dx dy «block_width» height (now out) × Inside width count x y dx dy «block_width» height ⌝ }
+    ensures { λ r. ⌜ now (out .exit) ≡ viewBlock (now (samples .entry)) width first step count (pos x) (pos y) dx dy «block_width» height ⌝ }
+{
+    let mut r: usize = 0;
+    while r < height {
+        let o = r * block_width;
+        let e = o + block_width;
+        any_line(
+            samples,
+            width,
+            first,
+            step,
+            count,
+            x,
+            y + r,
+            dx,
+            dy,
+            &mut out[o..e],
+        );
+        r += 1;
+    }
+}
+
+/// A predicted sample; where it is no mean, one sample is read.
+fn clamped_sample(
+    samples: &[u8],
+    width: usize,
+    first: usize,
+    step: usize,
+    count: usize,
+    x: i32,
+    y: i32,
+    dx: usize,
+    dy: usize,
+) -> u8
+    requires { ⌜ ViewFits (now samples) width first step count × (dx ≤ 1) × (dy ≤ 1) ⌝ }
+    requires { ⌜ Steps 1 x × Steps 1 y ⌝ }
+    ensures { λ r. ⌜ r ≡ spread (viewRead (now (samples .entry)) width first step count) x y dx dy ⌝ }
+{
+    if dx + dy == 0 {
+        return sample_at(samples, width, first, step, count, x, y);
+    }
+    form_sample(samples, width, first, step, count, x, y, dx, dy)
+}
+
+/// A row of a block, sample by sample.
+fn clamped_line(
+    samples: &[u8],
+    width: usize,
+    first: usize,
+    step: usize,
+    count: usize,
+    x: i32,
+    y: i32,
+    dx: usize,
+    dy: usize,
+    out: &mut [u8],
+)
+    requires { ⌜ ViewFits (now samples) width first step count × Reach x × Steps 1 y × (dx ≤ 1) × (dy ≤ 1) × (length (now out) ≤ 16) ⌝ }
+    ensures { λ r. ⌜ now (out .exit) ≡ tabulate (length (now (out .entry))) (lineCell (now (samples .entry)) width first step count x y dx dy) ⌝ }
+{
+    let mut k: usize = 0;
+    while k < out.len() {
+        out[k] = clamped_sample(samples, width, first, step, count, shifted(x, k), y, dx, dy);
+        k += 1;
+    }
+}
+
+/// A block of any width that reaches past an edge, sample by sample: a small one takes less time than room for a copy of what it reads.
+fn clamped_lines(
+    samples: &[u8],
+    width: usize,
+    first: usize,
+    step: usize,
+    count: usize,
+    x: i32,
+    y: i32,
+    dx: usize,
+    dy: usize,
+    block_width: usize,
+    height: usize,
+    out: &mut [u8],
+)
+    requires { ⌜ ViewFits (now samples) width first step count × Reach x × Reach y × BlockFits dx dy «block_width» height (now out) ⌝ }
+    ensures { λ r. ⌜ now (out .exit) ≡ viewBlock (now (samples .entry)) width first step count x y dx dy «block_width» height ⌝ }
+{
+    let mut r: usize = 0;
+    while r < height {
+        let o = r * block_width;
+        let e = o + block_width;
+        clamped_line(
+            samples,
+            width,
+            first,
+            step,
+            count,
+            x,
+            shifted(y, r),
+            dx,
+            dy,
+            &mut out[o..e],
+        );
+        r += 1;
+    }
+}
+
+/// A block whose width is neither 8 nor 16.
+fn form_other(
+    samples: &[u8],
+    width: usize,
+    first: usize,
+    step: usize,
+    count: usize,
+    x: i32,
+    y: i32,
+    dx: usize,
+    dy: usize,
+    block_width: usize,
+    block_height: usize,
+    out: &mut [u8],
+)
+    requires { ⌜ ViewFits (now samples) width first step count × Reach x × Reach y × BlockFits dx dy «block_width» «block_height» (now out) ⌝ }
+    ensures { λ r. ⌜ now (out .exit) ≡ viewBlock (now (samples .entry)) width first step count x y dx dy «block_width» «block_height» ⌝ }
+{
+    let columns = is_inside(x, dx + block_width, width);
+    let lines = is_inside(y, dy + block_height, count);
+    if columns & lines {
+        form_any(
+            samples,
+            width,
+            first,
+            step,
+            count,
+            x as usize,
+            y as usize,
+            dx,
+            dy,
+            block_width,
+            block_height,
+            out,
+        );
+        return;
+    }
+    clamped_lines(
+        samples,
+        width,
+        first,
+        step,
+        count,
+        x,
+        y,
+        dx,
+        dy,
+        block_width,
+        block_height,
+        out,
+    );
+}
+
+// ---- blocks
+
+/// Whether rows of n samples are formed eight by eight.
+fn by_eights(n: usize) -> bool
+    ensures { λ r. ⌜ r ≡ (eqb n 8 || eqb n 16) ⌝ }
+{
+    (n == 8) | (n == 16)
+}
+
+/// A block that reaches past an edge, or whose width is neither 8 nor 16. A view without samples reads as one of a single 0. As this
+/// function calls itself, it is not inlined, and blocks inside don't pay for its arrays.
+fn form_clamped(
+    samples: &[u8],
+    width: usize,
+    first: usize,
+    step: usize,
+    count: usize,
+    x: i32,
+    y: i32,
+    dx: usize,
+    dy: usize,
+    block_width: usize,
+    block_height: usize,
+    out: &mut [u8],
+)
+    requires { ⌜ Readable (now samples) width first step count × Reach x × Reach y × BlockFits dx dy «block_width» «block_height» (now out) ⌝ }
+    ensures { λ r. ⌜ now (out .exit) ≡ viewBlock (now (samples .entry)) width first step count x y dx dy «block_width» «block_height» ⌝ }
+{
+    if samples.len() == 0 {
+        let zero = [0u8; 1];
+        form_clamped(
+            &zero,
+            1,
+            0,
+            1,
+            1,
+            x,
+            y,
+            dx,
+            dy,
+            block_width,
+            block_height,
+            out,
+        );
+        return;
+    }
+    if by_eights(block_width) {
+        form_eights(
+            samples,
+            width,
+            first,
+            step,
+            count,
+            x,
+            y,
+            dx,
+            dy,
+            block_width,
+            block_height,
+            out,
+        );
+        return;
+    }
+    form_other(
+        samples,
+        width,
+        first,
+        step,
+        count,
+        x,
+        y,
+        dx,
+        dy,
+        block_width,
+        block_height,
+        out,
+    );
+}
+
+/// A block of a view, from (x, y) on. Nothing lies inside a view without samples.
+fn form(
+    samples: &[u8],
+    width: usize,
+    first: usize,
+    step: usize,
+    count: usize,
+    x: i32,
+    y: i32,
+    dx: usize,
+    dy: usize,
+    block_width: usize,
+    block_height: usize,
+    out: &mut [u8],
+)
+    requires { ⌜ Readable (now samples) width first step count × Reach x × Reach y × BlockFits dx dy «block_width» «block_height» (now out) ⌝ }
+    ensures { λ r. ⌜ now (out .exit) ≡ viewBlock (now (samples .entry)) width first step count x y dx dy «block_width» «block_height» ⌝ }
+{
+    let inside = is_inside(x, dx + block_width, width) & is_inside(y, dy + block_height, count);
+    if inside & by_eights(block_width) {
+        form_inside(
+            samples,
+            width,
+            first,
+            step,
+            count,
+            x as usize,
+            y as usize,
+            dx,
+            dy,
+            block_width,
+            block_height,
+            out,
+        );
+        return;
+    }
+    form_clamped(
+        samples,
+        width,
+        first,
+        step,
+        count,
+        x,
+        y,
+        dx,
+        dy,
+        block_width,
+        block_height,
+        out,
+    );
 }
 
 // ---- vectors, and the rows that are read
