@@ -43,7 +43,7 @@ fn number_of(answer: MacroblockPrediction) -> u32
 // ---- whether the numbers that are read have a meaning
 
 /// A presence, and whether what is read where it is 1 has a meaning.
-pub fn presence_known(present: u32, rest: bool) -> bool
+fn presence_known(present: u32, rest: bool) -> bool
     ensures { λ r. ⌜ r ≡ presenceKnown present rest ⌝ }
 {
     (present == 0) | ((present == 1) & rest)

@@ -1,7 +1,6 @@
 //! The card's C entry points for vectors and predictors, on numbers and bytes.
 use crate::prediction::NO_MEANING;
 use crate::prediction::is_yes;
-use crate::prediction::presence_known;
 use pmv::component::MotionResidual;
 use pmv::kinds::Component;
 use pmv::kinds::Direction;
@@ -220,7 +219,7 @@ fn update_known(
     let b = flag_from_number(backward);
     let i = flag_from_number(intra);
     let c = flag_from_number(concealment);
-    (structure.is_some() & presence_known(type_present, kind.is_some()))
+    (structure.is_some() & ((type_present == 0) | ((type_present == 1) & kind.is_some())))
         & (((f.is_some() & b.is_some()) & (i.is_some() & c.is_some()))
             & ((predictors == 32) & (outcome == 1)))
 }

@@ -1,6 +1,8 @@
 -- `update_known` meets its contract.
 -- Assumes nothing.
+use Rattle.pmv.specs.Kinds.{typeFrom, typeKnown}
 use Rattle.fozdrik.specs.Entries.{updateKnown}
+use Rattle.fozdrik.proofs.Presences.{presence-is}
 use borrow.Author.Needs.{needs}
 use Rattle.fozdrik.proofs.vectors.update_known.Statement.{statement}
 use Rattle.fozdrik.proofs.vectors.update_known.Tie as tie
@@ -29,9 +31,6 @@ is-some-requires c κs = search needs
 is-some-requires-2 : tie.Need-is-some-requires-2
 is-some-requires-2 c κs = search needs
 
-presence-known-requires : tie.Need-presence-known-requires
-presence-known-requires c κs = search needs
-
 is-some-requires-3 : tie.Need-is-some-requires-3
 is-some-requires-3 c κs = search needs
 
@@ -50,8 +49,7 @@ returns c =
     let i = c .before in
     let b = i .before in
     let f = b .before in
-    let p = f .before in
-    let k = p .before in
+    let k = f .before in
     let s = k .before in
     let conceal = s .before in
     let intra = conceal .before in
@@ -59,9 +57,11 @@ returns c =
     let forward = backward .before in
     let kind = forward .before in
     let structure = kind .before in
+    let a = structure .before .args in
     rw (
       rw (structure .from-number .ensures) at (s .is-some .ensures),
-      rw (rw (kind .from-number2 .ensures) at (k .is-some2 .ensures)) at (p .presence-known .ensures),
+      rw (kind .from-number2 .ensures) at (k .is-some2 .ensures),
+      presence-is (a .type-present) (typeKnown (typeFrom (a .prediction-type))),
       rw (forward .flag-from-number .ensures) at (f .is-some3 .ensures),
       rw (backward .flag-from-number2 .ensures) at (b .is-some4 .ensures),
       rw (intra .flag-from-number3 .ensures) at (i .is-some5 .ensures),
@@ -80,7 +80,6 @@ update-known-spec =
     flag-from-number-requires-4
     is-some-requires
     is-some-requires-2
-    presence-known-requires
     is-some-requires-3
     is-some-requires-4
     is-some-requires-5

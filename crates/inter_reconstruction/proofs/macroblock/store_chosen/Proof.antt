@@ -7,6 +7,7 @@ use native.Mathlib.Omega.{arith}
 use lib.ListN.{length, take}
 use lib.Seq.{length-take-le}
 use borrow.Author.Needs.{needs}
+use borrow.Author.Tests.{eq-eqb}
 use Rattle.inter_reconstruction.proofs.macroblock.store_chosen.Statement.{statement}
 use Rattle.inter_reconstruction.proofs.Rectangles.{forward-most, chosen-is}
 use Rattle.inter_reconstruction.proofs.macroblock.store_chosen.Tie as tie
@@ -41,16 +42,17 @@ slice-aggregate-combine-directional-predictions-2 c = sym (length-take-le _ _ (o
 combine-directional-predictions-requires : tie.Need-combine-directional-predictions-requires
 combine-directional-predictions-requires c κs = search needs
 
-copy-samples-requires : tie.Need-copy-samples-requires
-copy-samples-requires c κs =
-    let k = c .before in
-    k .before .before .before .before .before .before .pre ∙ sym (ap length (chosen-block k))
-
 same-length : tie.Need-same-length
 same-length c = search needs
 
+-- the output is as long as the chosen slice
 returns : tie.Need-returns
-returns c = let v = c .before .before in v .copy-samples .ensures ∙ chosen-block (v .before .before)
+returns c =
+    let v = c .before .before in
+    let k = v .before .before in
+    let e : length (k .before .before .before .before .before .before .args .out .now) ≡ length (now (k .combine-directional-predictions .result)) =
+    k .before .before .before .before .before .before .pre ∙ sym (ap length (chosen-block k)) in
+    (rw (eq-eqb _ _ e) at (v .copy-samples .ensures)) ∙ chosen-block k
 
 pub store-chosen-spec : {M : Type 1} → statement M
 store-chosen-spec =
@@ -61,6 +63,6 @@ store-chosen-spec =
     slice-aggregate-combine-directional-predictions
     slice-aggregate-combine-directional-predictions-2
     combine-directional-predictions-requires
-    copy-samples-requires
+    (λ c κs. search needs)
     same-length
     returns)

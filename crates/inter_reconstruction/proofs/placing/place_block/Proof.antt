@@ -1,10 +1,11 @@
 -- `place_block` meets its contract: after r turns the first r rows of the block are in their places.
 -- Assumes nothing.
-use mathlib.Core.Path.{sym, _∙_}
-use Prim.Native.Nat.{_+_, _-_, _*_, _≤_}
+use mathlib.Core.Path.{_≡_, sym, _∙_}
+use Prim.Native.Nat.{ℕ, _+_, _-_, _*_, _≤_}
 use native.Mathlib.Omega.{arith}
-use lib.ListN.{length}
+use lib.ListN.{length, take, drop}
 use borrow.Author.Needs.{needs}
+use borrow.Author.Tests.{eq-eqb}
 use Rattle.laws.proofs.Parts.{part-length}
 use Rattle.inter_reconstruction.proofs.Stored.{row-inside, row-source, RowsPlaced, placed-none, placed-row, placed-all}
 use Rattle.inter_reconstruction.proofs.placing.place_block.Statement.{statement}
@@ -59,16 +60,6 @@ part-copy-samples-end c = source c
 part-copy-samples-end-2 : tie.Need-part-copy-samples-end-2 Inv-loop μ-loop
 part-copy-samples-end-2 c = room (c .before)
 
-copy-samples-requires : tie.Need-copy-samples-requires Inv-loop μ-loop
-copy-samples-requires c κs =
-    let i = c .before .before in
-    let l = i .before in
-    let a = start l .args in
-    let r = l .loop .r in
-    let o = (a .y + r) * a .width + a .x in
-    part-length (l .loop .plane) o (o + a .block-width) (room i)
-    ∙ sym (part-length (a .block .now) (r * a .block-width) (r * a .block-width + a .block-width) (source i) ∙ omega arith)
-
 add-r : tie.Need-add-r Inv-loop μ-loop
 add-r c =
     let i = c .before .before .before .before .before in
@@ -82,7 +73,13 @@ loop-again c =
     let f = c .before .before in
     let i = f .before .before .before in
     let l = i .before in
-    (omega (arith, i .loop-test .taken), placed-row (l .loop .inv .1) (start l .pre) (i .loop-test .taken) (f .copy-samples .ensures))
+    let a = start l .args in
+    let r = l .loop .r in
+    let o = (a .y + r) * a .width + a .x in
+    let same : length (take (o + a .block-width - o) (drop o (l .loop .plane))) ≡ length (take (r * a .block-width + a .block-width - r * a .block-width) (drop (r * a .block-width) (a .block .now))) =
+    part-length (l .loop .plane) o (o + a .block-width) (room i)
+    ∙ sym (part-length (a .block .now) (r * a .block-width) (r * a .block-width + a .block-width) (source i) ∙ omega arith) in
+    (omega (arith, i .loop-test .taken), placed-row (l .loop .inv .1) (start l .pre) (i .loop-test .taken) (rw (eq-eqb _ _ same) at (f .copy-samples .ensures)))
 
 same-length : tie.Need-same-length Inv-loop μ-loop
 same-length c = c .before .loop .inv .1 .long
@@ -111,7 +108,7 @@ place-block-spec =
     (λ c. search needs)
     (λ c. search needs)
     part-copy-samples-end-2
-    copy-samples-requires
+    (λ c κs. search needs)
     add-r
     loop-less
     loop-again

@@ -1,11 +1,12 @@
 -- `copy_samples` meets its contract: after k turns the output has the first k samples at its front.
 -- Assumes nothing.
+use mathlib.Core.Path.{refl, sym, _∙_}
 use Prim.Native.Nat.{ℕ, _-_}
 use native.Mathlib.Omega.{arith}
-use borrow.Author.Needs.{needs}
 use lib.ListN.{length, getD}
+use borrow.Author.Needs.{needs}
+use borrow.Author.Tests.{eq-eqb, ne-eqb}
 use Rattle.laws.proofs.Filled.{Filled, filled-none, filled-length, filled-step, filled-all}
-use mathlib.Core.Path.{refl, _∙_}
 use Rattle.laws.proofs.Tabulated.{tab-self}
 use Rattle.inter_reconstruction.proofs.samples.copy_samples.Statement.{statement}
 use Rattle.inter_reconstruction.proofs.samples.copy_samples.Tie as tie
@@ -15,6 +16,9 @@ Inv-loop from out₀ k₀ out k = Filled (λ (i : ℕ). getD from i 0) out₀ k 
 
 abbrev μ-loop : tie.MeasureT-loop
 μ-loop from out₀ k₀ out k = length out₀ - k
+
+returns : tie.Need-returns Inv-loop μ-loop
+returns c = rw (ne-eqb _ _ (c .if1 .taken)) refl
 
 loop-holds : tie.Need-loop-holds Inv-loop μ-loop
 loop-holds c = filled-none _ _
@@ -37,8 +41,10 @@ loop-again c = filled-step (c .before .before .loop .inv) (search needs) refl
 same-length : tie.Need-same-length Inv-loop μ-loop
 same-length c = filled-length (c .before .loop .inv)
 
-returns : tie.Need-returns Inv-loop μ-loop
-returns c = filled-all (c .before .loop .inv) (search needs) (c .before .before .pre) ∙ tab-self _
+returns-2 : tie.Need-returns-2 Inv-loop μ-loop
+returns-2 c =
+    let e = c .before .before .if1 .left in
+    rw (eq-eqb _ _ e) (filled-all (c .before .loop .inv) (search needs) e ∙ tab-self _)
 
 pub copy-samples-spec : {M : Type 1} → statement M
 copy-samples-spec =
@@ -46,6 +52,7 @@ copy-samples-spec =
     (tie.spec
     Inv-loop
     μ-loop
+    returns
     loop-holds
     shared-slice-read-out
     slice-write-out
@@ -53,4 +60,4 @@ copy-samples-spec =
     loop-less
     loop-again
     same-length
-    returns)
+    returns-2)
