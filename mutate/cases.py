@@ -1,10 +1,12 @@
 """Cases that judge the definitions, as modules of equations which the prover computes: a selection of the lists' lines, document 01's worked
-cases and the runs of the drift figure, which worked_cases has, and for placing and the C buffers, which no list has, cases from an
-account of them in this file."""
+cases and the runs of the drift figure, which worked_cases has, and for what no list has, placing and the C buffers, cases from an account
+of it here and in placing.py."""
 
 import os
 import re
 import struct
+
+import placing
 
 # ---- the lists
 
@@ -74,8 +76,17 @@ class Module:
         unfolding = f"unfolding {self.unfolding}\n" if self.unfolding else ""
         self.parts.append(f"pub {name} : {claim}\n{unfolding}{name} = {proof}")
 
-    def text(self):
-        return COMMON + self.head.strip() + "\n\n" + "\n\n".join(self.parts) + "\n"
+    def text(self, every=1):
+        """the module, or one with every few cases alone and what they need"""
+        kept, n = [], 0
+        for part in reversed(self.parts):
+            if part.startswith("pub case"):
+                n += 1
+                if n % every == 0:
+                    kept.append(part)
+            elif every == 1 or any(re.search(rf"(?<!\w){name}(?!\w)", k) for name in re.findall(r"^abbrev (\S+) :", part, re.M) for k in kept):
+                kept.append(part)
+        return COMMON + self.head.strip() + "\n\n" + "\n\n".join(reversed(kept)) + "\n"
 
 
 COMMON = """use mathlib.Core.Path.{_≡_, refl}
@@ -121,7 +132,7 @@ use Rattle.combine_predictions.specs.declared.PredictionDirection.the-variants.
         side = "f" if c[4] == c[2] else "b"
         m.count += 1
         m.parts.append(f"pub case{m.count} : (f b : RefT (List ℕ)) → chosen {directions[c[1]]} f b ≡ {side}\ncase{m.count} f b = refl")
-    return m.text()
+    return m
 
 
 # ---- forming
@@ -202,7 +213,12 @@ use Rattle.forming_predictions.specs.declared.Predicted.the-variants as Block
         call = f"sampleAnswer (planeRefusal {w} {h} {len(s)}) (sampleAt {LINES[c[1]]} {w} {h} {named(x[2])} {z(c[2])} {z(c[3])})"
         said = answered(int(c[4]), c[5])
         m.case(f"{call} ≡ {said}", f"sampleNumber ({said}) ≡ {c[4]}", f"sampleValue ({said}) ≡ valueUnless {{A = ℕ}} {c[4]} {c[5]}")
-    m.case("valueUnless {A = ℕ} 0 7 ≡ some 7", "valueUnless {A = ℕ} 14 7 ≡ none", "sampleValue (Sample 7) ≡ some 7", "sampleValue (Refused 14) ≡ none")
+    m.case(
+        "valueUnless {A = ℕ} 0 7 ≡ some 7",
+        "valueUnless {A = ℕ} 14 7 ≡ none",
+        "sampleValue (Sample 7) ≡ some 7",
+        "sampleValue (Refused 14) ≡ none",
+    )
     halves = lambda c: (int(c[4]) % 2, int(c[5]) % 2)
     for x in selection([x for x in kind("8") if few(x)], lambda x: (x[1][1], x[1][6], halves(x[1]), x[0], int(x[1][4]) < 0), 1, 90):
         group, c, (w, h, s) = x
@@ -231,7 +247,7 @@ use Rattle.forming_predictions.specs.declared.Predicted.the-variants as Block
     for x in selection(kind("9"), lambda x: limits(x) if x[0] in "klmnopq" else None, 1, 160):
         group, c, (w, h, s) = x
         m.case(f"blockRefusal {w} {h} {len(s)} {z(c[2])} {z(c[3])} {c[4]} {c[5]} {c[9]} ≡ {c[10]}")
-    return m.text()
+    return m
 
 
 # ---- vectors and predictors
@@ -338,25 +354,34 @@ def pmv(repository):
         value = f"(range {z(low)} {z(high)} {z(span)})"
         said = f"Found.Refused {answer}" if answer else f"Found.Range {value}"
         m.case(
-            f"rangeAnswer (fCodeRefusal {f}) (rangeOf (scale {f})) ≡ {said}", f"rangeNumber ({said}) ≡ {answer}", f"rangeValue ({said}) ≡ {'none' if answer else 'some ' + value}"
+            f"rangeAnswer (fCodeRefusal {f}) (rangeOf (scale {f})) ≡ {said}",
+            f"rangeNumber ({said}) ≡ {answer}",
+            f"rangeValue ({said}) ≡ {'none' if answer else 'some ' + value}",
         )
 
     def component(answer, values):
         value = "(component " + " ".join(z(v) for v in values) + ")"
         return (f"C.Refused {answer}" if answer else f"C.Component {value}"), ("none" if answer else "some " + value), value
 
-    for g, c in selection(kind(3), lambda x: (x[0], x[1][9], x[1][6:9], x[1][5] % 2) and (x[0], x[1][9], tuple(x[1][6:9]), x[1][5] % 2), 1, 220):
+    for g, c in selection(kind(3), lambda x: (x[0], x[1][9], tuple(x[1][6:9]), x[1][5] % 2), 1, 220):
         _, code, there, value, f, prior, format, structure, t, answer = c[:10]
-        words = f"{f} {z(code)} {residual(there, value)} {z(prior)} (halves {kind_of('MvFormat', format)} {kind_of('PictureStructure', structure)} {kind_of('Component', t)})"
+        kinds = f"{kind_of('MvFormat', format)} {kind_of('PictureStructure', structure)} {kind_of('Component', t)}"
+        words = f"{f} {z(code)} {residual(there, value)} {z(prior)} (halves {kinds})"
         said, option, _ = component(answer, c[10:14])
         m.case(
-            f"reconstructedAnswer (componentRefusal {words}) (componentOf {words}) ≡ {said}", f"reconstructedNumber ({said}) ≡ {answer}", f"reconstructedValue ({said}) ≡ {option}"
+            f"reconstructedAnswer (componentRefusal {words}) (componentOf {words}) ≡ {said}",
+            f"reconstructedNumber ({said}) ≡ {answer}",
+            f"reconstructedValue ({said}) ≡ {option}",
         )
     for g, c in selection(kind(4), lambda x: (x[0], tuple(x[1][9:12]), x[1][16]), 1, 60):
         r, s, t = kind_of("VectorIndex", c[9]), kind_of("Direction", c[10]), kind_of("Component", c[11])
         said, _, _ = component(c[16], c[17:21])
         words = f"{eight(c[1:9])} {r} {s} {t} {c[15]} {z(c[12])} {residual(c[13], c[14])} false"
-        m.case(f"decoded {words} ported .answer ≡ {said}", f"decoded {words} ported .pmv ≡ {eight(c[21:29])}", f"partRefusal {words} ported ≡ {c[16]}")
+        m.case(
+            f"decoded {words} ported .answer ≡ {said}",
+            f"decoded {words} ported .pmv ≡ {eight(c[21:29])}",
+            f"partRefusal {words} ported ≡ {c[16]}",
+        )
     for g, c in selection(kind(5), lambda x: (x[0], x[1][21], x[1][9], x[1][10], x[1][19], x[1][20] == 2), 1, 100):
         r, s = kind_of("VectorIndex", c[9]), kind_of("Direction", c[10])
         mv = f"(vector {z(c[11])} {residual(c[12], c[13])} {z(c[14])} {residual(c[15], c[16])})"
@@ -366,13 +391,17 @@ def pmv(repository):
         words = f"{c[17]} {c[18]} {kind_of('MvFormat', c[19])} {kind_of('PictureStructure', c[20])}"
         call = f"reconstructed {eight(c[1:9])} {mv} {r} {s} {words} ported"
         m.case(
-            f"{call} .answer ≡ {said}", f"{call} .pmv ≡ {eight(c[30:38])}", f"vectorNumber ({said}) ≡ {c[21]}",
-            f"vectorValue ({said}) ≡ {'none' if c[21] else 'some ' + value}", f"vectorRefusal (pairOf {eight(c[1:9])} {r} {s}) {mv} {words} ported ≡ {c[21]}",
-        )  # fmt: skip
+            f"{call} .answer ≡ {said}",
+            f"{call} .pmv ≡ {eight(c[30:38])}",
+            f"vectorNumber ({said}) ≡ {c[21]}",
+            f"vectorValue ({said}) ≡ {'none' if c[21] else 'some ' + value}",
+            f"vectorRefusal (pairOf {eight(c[1:9])} {r} {s}) {mv} {words} ported ≡ {c[21]}",
+        )
     for g, c in selection(kind(6), lambda x: (x[1][3], x[1][1] % 4, x[1][1] < 0, x[1][2] % 4 == x[1][1] % 4), 1, 48):
         chroma = kind_of("ChromaFormat", c[3])
         m.case(
-            f"scaled {z(c[1])} {z(c[2])} {chroma} ≡ record {{ «luma_horiz» = {z(c[1])}; «luma_vert» = {z(c[2])}; «chroma_horiz» = {z(c[4])}; «chroma_vert» = {z(c[5])} }}"
+            f"scaled {z(c[1])} {z(c[2])} {chroma} ≡ record {{ «luma_horiz» = {z(c[1])}; «luma_vert» = {z(c[2])}; "
+            f"«chroma_horiz» = {z(c[4])}; «chroma_vert» = {z(c[5])} }}"
         )
     distinct = lambda c: len(set(c[1:9])) == 8 and 0 not in c[1:9]
     for g, c in selection([x for x in kind(7) if distinct(x[1])], lambda x: tuple(x[1][9:16]), 1, 300):
@@ -380,12 +409,19 @@ def pmv(repository):
         x = f"(context {kind_of('PictureStructure', c[9])} {type} {' '.join(flag(v) for v in c[12:16])})"
         outcome = "Outcome." + OUTCOMES[c[17]]
         said = f"U.Refused {c[16]}" if c[16] else f"U.Outcome {outcome}"
-        m.case(f"updated {eight(c[1:9])} {x} .answer ≡ {said}", f"updated {eight(c[1:9])} {x} .pmv ≡ {eight(c[18:26])}", f"updateRefusal {x} ≡ {c[16]}")
+        m.case(
+            f"updated {eight(c[1:9])} {x} .answer ≡ {said}",
+            f"updated {eight(c[1:9])} {x} .pmv ≡ {eight(c[18:26])}",
+            f"updateRefusal {x} ≡ {c[16]}",
+        )
     for n, name in enumerate(OUTCOMES):
         m.case(
-            f"outcomeNumber Outcome.{name} ≡ {n}", f"updateNumber (U.Outcome Outcome.{name}) ≡ 0", f"updateValue (U.Outcome Outcome.{name}) ≡ some Outcome.{name}",
-            f"updateNumber (U.Refused {n + 7}) ≡ {n + 7}", f"updateValue (U.Refused {n + 7}) ≡ none",
-        )  # fmt: skip
+            f"outcomeNumber Outcome.{name} ≡ {n}",
+            f"updateNumber (U.Outcome Outcome.{name}) ≡ 0",
+            f"updateValue (U.Outcome Outcome.{name}) ≡ some Outcome.{name}",
+            f"updateNumber (U.Refused {n + 7}) ≡ {n + 7}",
+            f"updateValue (U.Refused {n + 7}) ≡ none",
+        )
     for g, c in selection([x for x in kind(8) if distinct(x[1])], lambda x: (x[1][9], min(x[1][10], 6)), 1, 40):
         call = f"spatialTemporalReset {eight(c[1:9])} {kind_of('PictureCodingType', c[9])} {c[10]}"
         m.case(f"{call} .applied ≡ {flag(c[11])}", f"{call} .pmv ≡ {eight(c[12:20])}")
@@ -394,7 +430,7 @@ def pmv(repository):
         m.case(f"predictor {eight(c[1:9])} {place} ≡ {z(c[13])}", f"stored {eight(c[1:9])} {place} {z(c[12])} ≡ {eight(c[14:22])}")
     for g, c in kind(11)[:1]:
         m.case(f"zeroed ≡ {eight(c[1:9])}")
-    return m.text()
+    return m
 
 
 # ---- macroblocks
@@ -571,34 +607,18 @@ def macroblocks(repository):
         if not after:
             continue
         value = f"predicted rounded ({dest} .«chroma_format») (readReference {forward} {fp}) (readReference {backward} {bp}) {u} {c[12]} {c[13]}"
-        m.define(f"abbrev block{n} : List ℕ\nblock{n} = unlessRefused (predictionNumber (predictionAnswer ({refusal}))) ({value}) (filled {rest[0]} {rest[1]})")
+        number = f"predictionNumber (predictionAnswer ({refusal}))"
+        m.define(f"abbrev block{n} : List ℕ\nblock{n} = unlessRefused ({number}) ({value}) (filled {rest[0]} {rest[1]})")
         chroma = (len(after) - 256) // 2
         spots = [0, 17 + n % 7, 256 + n % chroma, 256 + chroma - 1, 256 + chroma + (11 * n) % chroma, len(after) - 1, (37 * n) % 256]
         m.case(*[f"getD block{n} {k} 0 ≡ {after[k]}" for k in sorted(set(spots))], f"length block{n} ≡ {len(after)}")
-    return m.text()
+    return m
 
 
-# ---- placing: document 01's words, since the Rust has no such call
+# ---- placing, by the account of it
 
 
-def placed(format, width, height, col, row, size):
-    """for each plane of a picture of one number, 7, what is at each place after a macroblock of bytes 1000, 1001, .. is put at a cell"""
-    columns = lambda n: n if format == 2 else n // 2
-    lines = lambda n: n // 2 if format == 0 else n
-    result, first = [], 1000
-    for luma in (True, False, False):
-        w, h = (width, height) if luma else (columns(width), lines(height))
-        bw, bh = (16, 16) if luma else (columns(16), lines(16))
-        plane = [7] * (w * h)
-        for y in range(bh):
-            for x in range(bw):
-                plane[(row * bh + y) * w + col * bw + x] = first
-                first += 1
-        result.append(plane)
-    return result
-
-
-def placing(repository):
+def placings(repository):
     m = Module(
         """
 use Rattle.forming_predictions.specs.Refusals.{planeFits}
@@ -619,58 +639,22 @@ use Rattle.inter_reconstruction.specs.declared.placing.MacroblockPlacement.the-
     m.define(FRAMES_HELP.split("\n\n")[-1])
     m.define("abbrev bytes : ℕ → List ℕ\nbytes n = tabulate n (λ (k : ℕ). 1000 + k)")
     m.define("abbrev grey : ℕ → ℕ → ℕ → Samples\ngrey a b c = samplesOf (replicate a 7) (replicate b 7) (replicate c 7)")
-    size = {0: 384, 1: 512, 2: 768}
 
-    def picture(format, w, h, sides=None):
-        cw, ch = (w if format == 2 else w // 2), (h // 2 if format == 0 else h)
-        y = sides or [w, h, cw, ch, cw, ch]
-        return f"(buffer (geometry {w} {h} {kind_of('ChromaFormat', format)}) {' '.join(map(str, y))})", y
+    def picture(c):
+        return f"(buffer (geometry {c.w} {c.h} {kind_of('ChromaFormat', c.format)}) {' '.join(map(str, c.sides))})"
 
-    for format, w, h, col, row in ((0, 32, 16, 1, 0), (0, 16, 32, 0, 1), (1, 16, 32, 0, 1), (2, 16, 32, 0, 0)):
-        p, sides = picture(format, w, h)
-        planes = placed(format, w, h, col, row, size[format])
-        counts = " ".join(str(len(x)) for x in planes)
-        for name, plane in zip(("luma", "cb", "cr"), planes):
-            m.case(f"placed {p} {col} {row} (bytes {size[format]}) (grey {counts}) {name} ≡ {lst(plane)}")
-
-    def refused(number, format, w, h, col, row, sides=None, counts=None, bytes=None):
-        p, s = picture(format, w, h, sides)
-        n = counts or [s[0] * s[1], s[2] * s[3], s[4] * s[5]]
-        said = f"Refused {number}" if number else "Done"
+    for c in placing.accepted():
+        counts = " ".join(map(str, c.counts))
+        for name, plane in zip(("luma", "cb", "cr"), c.planes(lambda k: 1000 + k)):
+            m.case(f"placed {picture(c)} {c.col} {c.row} (bytes {c.bytes}) (grey {counts}) {name} ≡ {lst(plane)}")
+    for c in placing.refusals():
+        said = f"Refused {c.number}" if c.number else "Done"
+        counts = " ".join(map(str, c.counts))
         m.case(
-            f"placingAnswer (placingRefusal {p} (lengths {n[0]} {n[1]} {n[2]}) {size[format] if bytes is None else bytes} {col} {row}) ≡ {said}", f"placingNumber ({said}) ≡ {number}"
+            f"placingAnswer (placingRefusal {picture(c)} (lengths {counts}) {c.bytes} {c.col} {c.row}) ≡ {said}",
+            f"placingNumber ({said}) ≡ {c.number}",
         )
-
-    for format in (0, 1, 2):
-        refused(0, format, 32, 16, 1, 0)
-        refused(0, format, 16384, 16384, 1023, 1023)
-        for w, h in ((16400, 16), (16, 16400), (16385, 16), (16, 16385)):
-            refused(14, format, w, h, 0, 0)
-        for w, h in ((0, 16), (16, 0), (24, 16), (16, 24), (17, 16), (16, 31), (8, 16), (16, 8)):
-            refused(20, format, w, h, 0, 0)
-        for col, row in ((2, 0), (0, 1), (3, 3)):
-            refused(20, format, 32, 16, col, row)
-        for bytes in (0, size[format] - 1, size[format] + 1, size[(format + 1) % 3]):
-            refused(18, format, 32, 16, 0, 0, bytes=bytes)
-        p, s = picture(format, 32, 48)
-        for k in range(6):
-            other = list(s)
-            other[k] += 2
-            refused(20, format, 32, 48, 0, 0, sides=other)
-            other[k] = 16386
-            refused(14, format, 32, 48, 0, 0, sides=other)
-        for k in range(3):
-            n = [s[0] * s[1], s[2] * s[3], s[4] * s[5]]
-            for d in (1, -1):
-                other = list(n)
-                other[k] += d
-                refused(14, format, 32, 48, 0, 0, counts=other)
-    # the order: 14, 20, 18
-    refused(14, 0, 16400, 24, 0, 0, bytes=1)
-    refused(14, 0, 32, 48, 9, 9, counts=[1, 1, 1], bytes=1)
-    refused(20, 0, 32, 48, 2, 0, bytes=1)
-    refused(20, 0, 24, 16, 0, 0, bytes=1)
-    return m.text()
+    return m
 
 
 # ---- the C entry points: the lists' cases by their numbers and bytes, and numbers without a meaning
@@ -704,7 +688,7 @@ use Rattle.fozdrik.specs.Entries.{unknownRefusal, isYes, vectorKnown, updateKno
 use Rattle.inter_reconstruction.specs.declared.frames.ReferenceFrame.the-variants as Reference
 use Rattle.inter_reconstruction.specs.declared.motion.FrameDirection.the-variants as Frame
 use Rattle.inter_reconstruction.specs.declared.motion.FieldDirection.the-variants as Field
-""" + "".join(f"use Rattle.pmv.specs.declared.kinds.{o}.the-variants as {o}\n" for o in ("OptionFlag",) + tuple("Option" + n for n in KINDS if n in HEADER and n != "Component"))
+""" + "".join(f"use Rattle.pmv.specs.declared.kinds.Option{n}.the-variants as Option{n}\n" for n in ["Flag", *HEADER] if n != "Component")
     m = Module(
         head,
         PMV_UNFOLDING + " bytesOf numberAt predictorsOf numbersBytes withPair vectorKnown updateKnown residualOf typeOf frameKnown fieldKnown "
@@ -727,20 +711,35 @@ use Rattle.inter_reconstruction.specs.declared.motion.FieldDirection.the-varian
             m.case(f"Kinds.{short}Known Option{name}.None ≡ false")
     for n, value in ((numbers["flag"]["NO"], "false"), (numbers["flag"]["YES"], "true")):
         some = f"(OptionFlag.Some {value})"
-        m.case(f"Kinds.flagNumber {value} ≡ {n}", f"Kinds.flagFrom {n} ≡ {some}", f"Kinds.flagKnown {some} ≡ true", f"Kinds.flagOr {some} ≡ {value}", f"isYes {n} ≡ {value}")
+        m.case(
+            f"Kinds.flagNumber {value} ≡ {n}",
+            f"Kinds.flagFrom {n} ≡ {some}",
+            f"Kinds.flagKnown {some} ≡ true",
+            f"Kinds.flagOr {some} ≡ {value}",
+            f"isYes {n} ≡ {value}",
+        )
     for n in (2, 3, 256, 257):
         m.case(f"Kinds.flagFrom {n} ≡ OptionFlag.None", "Kinds.flagKnown OptionFlag.None ≡ false")
     for n, value in enumerate(KINDS["PictureCodingType"][0]):
-        m.case(f"Kinds.codingNumber PictureCodingType.{value} ≡ {n}", f"Kinds.isInterPicture PictureCodingType.{value} ≡ {flag(value in ('Predictive', 'Bidirectional'))}")
+        m.case(
+            f"Kinds.codingNumber PictureCodingType.{value} ≡ {n}",
+            f"Kinds.isInterPicture PictureCodingType.{value} ≡ {flag(value in ('Predictive', 'Bidirectional'))}",
+        )
     # numbers in bytes
     for v in (0, 1, -1, 127, 128, 255, 256, -256, 65535, 65536, 16777216, 2**31 - 1, -(2**31), -(2**31) + 1, 305419896, -305419896):
         unsigned = struct.unpack("<I", bytes(word(v)))[0]
-        m.case(f"wordOf {z(v)} ≡ {unsigned}", f"numberOf {unsigned} ≡ {z(v)}", f"bytesOf {z(v)} ≡ {lst(word(v))}", f"numberAt {lst([9] + word(v) + [9])} 1 ≡ {z(v)}")
+        m.case(
+            f"wordOf {z(v)} ≡ {unsigned}",
+            f"numberOf {unsigned} ≡ {z(v)}",
+            f"bytesOf {z(v)} ≡ {lst(word(v))}",
+            f"numberAt {lst([9] + word(v) + [9])} 1 ≡ {z(v)}",
+        )
     # vectors and updates
     cases = read_list(repository, "pmv")
     kind = lambda k: [(g, [int(v) for v in c]) for g, c in cases if c[0] == str(k)]
     old = [9, 8, 7, 6, 5, 4, 3, 2]
-    for g, c in selection([x for x in kind(5) if x[0] in "lmo"], lambda x: (x[1][21], x[1][9], x[1][10], x[1][19], x[1][20], x[1][12], x[1][15]), 1, 60):
+    shape = lambda x: tuple(x[1][k] for k in (21, 9, 10, 19, 20, 12, 15))
+    for g, c in selection([x for x in kind(5) if x[0] in "lmo"], shape, 1, 60):
         l, after = lst(predictor_bytes(c[1:9])), lst(predictor_bytes(c[30:38]))
         mv = f"(motionVectorOf {z(c[11])} {c[12]} {c[13]} {z(c[14])} {c[15]} {c[16]})"
         got = f"vectorFrom {l} (indexOf {c[9]}) (directionOf {c[10]}) {mv} {c[17]} {c[18]} (formatOf {c[19]}) (structureOf {c[20]})"
@@ -748,8 +747,9 @@ use Rattle.inter_reconstruction.specs.declared.motion.FieldDirection.the-varian
         vector = lst(word(c[22]) + word(c[26]) if not c[21] else old)
         m.case(
             f"orElse (unknownRefusal ({known})) (vectorNumber ({got} .answer)) ≡ {c[21]}",
-            f"withPair {l} (indexOf {c[9]}) (directionOf {c[10]}) ({got} .predictors) ≡ {after}", f"vectorBytes ({got} .answer) {lst(old)} ≡ {vector}",
-        )  # fmt: skip
+            f"withPair {l} (indexOf {c[9]}) (directionOf {c[10]}) ({got} .predictors) ≡ {after}",
+            f"vectorBytes ({got} .answer) {lst(old)} ≡ {vector}",
+        )
     distinct = lambda c: len(set(c[1:9])) == 8 and 0 not in c[1:9]
     for g, c in selection([x for x in kind(7) if distinct(x[1])], lambda x: (x[1][9], x[1][10], x[1][11], x[1][16], x[1][17]), 1, 60):
         l = lst(predictor_bytes(c[1:9]))
@@ -772,33 +772,66 @@ use Rattle.inter_reconstruction.specs.declared.motion.FieldDirection.the-varian
             m.case(f"unknownRefusal ({name} {' '.join(map(str, other))}) ≡ 0")
 
     two, three, four = (2, 7), (3, 7), (4, 7)
-    unknowns("vectorKnown", [1, 1, 1, 1, 1, 2, 32, 8], {0: two, 1: two, 2: two, 3: two, 4: two, 5: three, 6: (31, 33, 0), 7: (7, 9, 0)}, [(0, 0), (5, 0), (5, 1)])
-    unknowns("updateKnown", [2, 1, 3, 1, 1, 1, 1, 32, 1], {0: three, 1: two, 2: four, 3: two, 4: two, 5: two, 6: two, 7: (31, 33), 8: (0, 2)}, [(2, 0), (6, 0)])
+    unknowns(
+        "vectorKnown",
+        [1, 1, 1, 1, 1, 2, 32, 8],
+        {0: two, 1: two, 2: two, 3: two, 4: two, 5: three, 6: (31, 33, 0), 7: (7, 9, 0)},
+        [(0, 0), (5, 0), (5, 1)],
+    )
+    unknowns(
+        "updateKnown",
+        [2, 1, 3, 1, 1, 1, 1, 32, 1],
+        {0: three, 1: two, 2: four, 3: two, 4: two, 5: two, 6: two, 7: (31, 33), 8: (0, 2)},
+        [(2, 0), (6, 0)],
+    )
     unknowns("updateKnown", [2, 0, 9, 0, 0, 0, 0, 32, 1], {1: two}, [(2, 4)])
     unknowns("frameKnown", [2, 1, 2, 1, 2, 1, 1], {0: three, 1: two, 2: three, 3: two, 4: three, 5: two, 6: two}, [(0, 0), (5, 0)])
     unknowns("frameKnown", [2, 0, 9, 0, 9, 0, 0], {1: two, 3: two}, [(2, 1), (4, 1)])
-    unknowns("fieldKnown", [2, 1, 2, 1, 2, 1, 1, 1, 1, 1, 1], {0: three, 1: two, 2: three, 3: two, 4: three, 5: two, 6: two, 7: two, 8: two, 9: two, 10: two}, [(6, 0), (10, 0)])
+    unknowns(
+        "fieldKnown",
+        [2, 1, 2, 1, 2, 1, 1, 1, 1, 1, 1],
+        {0: three, 1: two, 2: three, 3: two, 4: three, 5: two, 6: two, 7: two, 8: two, 9: two, 10: two},
+        [(6, 0), (10, 0)],
+    )
     unknowns("fieldKnown", [2, 0, 9, 0, 9, 0, 9, 9, 0, 9, 9], {5: two, 8: two}, [(6, 1), (9, 0)])
     # what the numbers of the prediction calls are put together to; every number is another
     g = "record { width = 11; height = 12; «chroma_format» = ChromaFormat.Yuv422 }"
     plane = lambda a, b: f"record {{ width = {a}; height = {b} }}"
     there = f"Reference.Present (record {{ geometry = {g}; y = {plane(13, 14)}; cb = {plane(15, 16)}; cr = {plane(17, 18)} }})"
-    m.case(f"geometryOf 11 12 1 ≡ {g}", f"referenceOf 1 11 12 1 13 14 15 16 17 18 ≡ {there}", "referenceOf 0 11 12 1 13 14 15 16 17 18 ≡ Reference.Absent")
+    m.case(
+        f"geometryOf 11 12 1 ≡ {g}",
+        f"referenceOf 1 11 12 1 13 14 15 16 17 18 ≡ {there}",
+        "referenceOf 0 11 12 1 13 14 15 16 17 18 ≡ Reference.Absent",
+    )
     v = lambda h, w: f"record {{ horizontal = {z(h)}; vertical = {z(w)} }}"
     u = lambda h, w, p: f"record {{ vector = {v(h, w)}; «reference_field» = FieldParity.{p} }}"
     m.case(f"frameDirectionOf 1 {z(3)} {z(-4)} ≡ Frame.Present ({v(3, -4)})", f"frameDirectionOf 0 {z(3)} {z(-4)} ≡ Frame.Absent")
-    m.case(f"frameMotionOf 1 {z(3)} {z(-4)} 1 {z(5)} {z(6)} .forward ≡ Frame.Present ({v(3, -4)})", f"frameMotionOf 1 {z(3)} {z(-4)} 1 {z(5)} {z(6)} .backward ≡ Frame.Present ({v(5, 6)})")
-    m.case(f"frameMotionOf 0 {z(3)} {z(-4)} 1 {z(5)} {z(6)} .forward ≡ Frame.Absent", f"frameMotionOf 1 {z(3)} {z(-4)} 0 {z(5)} {z(6)} .backward ≡ Frame.Absent")
+    m.case(
+        f"frameMotionOf 1 {z(3)} {z(-4)} 1 {z(5)} {z(6)} .forward ≡ Frame.Present ({v(3, -4)})",
+        f"frameMotionOf 1 {z(3)} {z(-4)} 1 {z(5)} {z(6)} .backward ≡ Frame.Present ({v(5, 6)})",
+    )
+    m.case(
+        f"frameMotionOf 0 {z(3)} {z(-4)} 1 {z(5)} {z(6)} .forward ≡ Frame.Absent",
+        f"frameMotionOf 1 {z(3)} {z(-4)} 0 {z(5)} {z(6)} .backward ≡ Frame.Absent",
+    )
     pair = lambda a, b: f"Field.Present (record {{ top = {a}; bottom = {b} }})"
     for flags in ((1, 1), (0, 1), (1, 0)):
         call = f"fieldMotionOf {flags[0]} 1 {z(3)} {z(-4)} 0 {z(5)} {z(6)} {flags[1]} 0 {z(7)} {z(8)} 1 {z(-9)} {z(10)}"
         forward = pair(u(3, -4, "Bottom"), u(5, 6, "Top")) if flags[0] else "Field.Absent"
         backward = pair(u(7, 8, "Top"), u(-9, 10, "Bottom")) if flags[1] else "Field.Absent"
         m.case(f"{call} .forward ≡ {forward}", f"{call} .backward ≡ {backward}")
-    return m.text()
+    return m
 
 
 # ---- worked_cases
+
+FITS = """pub fits : (k : ℕ) → Fitting g k hollow
+unfolding tabulate
+fits k n luma h = refl
+fits k n cb h = refl
+fits k n cr h = refl
+
+"""
 
 
 def worked(repository):
@@ -816,26 +849,39 @@ def worked(repository):
     folder = os.path.join(repository, "crates", "worked_cases")
     with open(os.path.join(folder, "proofs", "Cases.antt")) as f:
         table = edited(
-            f.read(), (r"use native\.Mathlib\.Omega[^\n]*\n", ""), (r"use [^\n]*clamp-lt[^\n]*\n", ""), (r"-- a side of 1 has one place\n.*?\n\n", ""), (r"λ x y\. rw \(only x\)", "refl")
+            f.read(),
+            (r"use native\.Mathlib\.Omega[^\n]*\n", ""),
+            (r"use [^\n]*clamp-lt[^\n]*\n", ""),
+            (r"-- a side of 1 has one place\n.*?\n\n", ""),
+            (r"λ x y\. rw \(only x\)", "refl"),
         )
     with open(os.path.join(folder, "specs", "Cases.antt")) as f:
         cases = edited(f.read(), (r"\(\(x y : ℤ\) → (sampleAt \(field Bottom\)[^\n]*?) x y ≡ sample\)", r"(\1 (negsuc 1) (pos 3) ≡ sample)"))
     with open(os.path.join(folder, "proofs", "Drift.antt")) as f:
         runs = edited(
             f.read(),
+            # pictures 1 and 2 alone: what is computed grows with the picture's number
+            (r"\(1 ∷ 2 ∷ 3 ∷ 4 ∷ \[\]\)", "(1 ∷ 2 ∷ [])"),
+            (r"\(refl, \(refl, \(refl, \(refl, tt\)\)\)\)", "(refl, (refl, tt))"),
             (r"use [^\n]*length-tab[^\n]*\n", ""),
             (r"use Rattle\.drift\.proofs\.Runs[^\n]*\n", ""),
             (r"Drift\.\{Fitting, InRange, Near\}", "Drift.{Fitting, InRange, Near, Lower, DriftFigure}"),
-            (r"pub fits : .*?\n\n", "pub fits : (k : ℕ) → Fitting g k hollow\nunfolding tabulate\nfits k n luma h = refl\nfits k n cb h = refl\nfits k n cr h = refl\n\n"),
-            (r"pub instance : (Near [^\n]*)\ninstance = drift ([^\n]*?) \(fits .*?\) 2\)", r"pub instance : DriftFigure → \1\ninstance drift = drift \2 (fits 2)"),
+            (r"pub fits : .*?\n\n", FITS),
+            (
+                r"pub instance : (Near [^\n]*)\ninstance = drift ([^\n]*?) \(fits .*?\) 2\)",
+                r"pub instance : DriftFigure → \1\ninstance drift = drift \2 (fits 2)",
+            ),
         )
-    return table, cases, runs
+    few = edited(runs, (r"pub meets-above : .*?\n\n", ""), (r"pub meets-below : .*?\n\n", ""))
+    return table, cases, runs, few
 
 
 def modules(repository):
-    """the modules of cases by name, and the table of worked_cases"""
-    table, cases, runs = worked(repository)
-    made = {"Averaging": averaging, "Forming": forming, "Vectors": pmv, "Macroblocks": macroblocks, "Placing": placing, "Entries": entries}
-    found = {name: make(repository) for name, make in made.items()}
-    found["Worked"], found["Runs"] = table, runs
+    """the modules of cases by name, and the table of worked_cases. `XFew` has one in eight of the cases of X: it notices most, and soon."""
+    table, cases, runs, few = worked(repository)
+    made = {"Averaging": averaging, "Forming": forming, "Vectors": pmv, "Macroblocks": macroblocks, "Placing": placings, "Entries": entries}
+    found = {"Worked": table, "Runs": runs, "RunsFew": few}
+    for name, make in made.items():
+        module = make(repository)
+        found[name], found[name + "Few"] = module.text(), module.text(8)
     return found, cases

@@ -2,6 +2,7 @@
 """Small mutations of the code and of the definitions, and what notices them. See README.md."""
 
 import argparse
+import itertools
 import multiprocessing
 import os
 import re
@@ -25,23 +26,23 @@ JUDGES = {
     "combine_predictions": ["replay_combine_predictions"],
     "forming_predictions": ["replay_forming_predictions", "fuzz"],
     "pmv": ["replay_pmv", "replay_inter_reconstruction", "fuzz"],
-    "inter_reconstruction": ["replay_inter_reconstruction", "run_drift", "fuzz"],
+    "inter_reconstruction": ["replay_inter_reconstruction", "try_placing", "run_drift", "fuzz"],
     "fozdrik": ["fuzz"],
 }
 # files that the crate's first judge does not run, and what does
 RATHER = {
-    "inter_reconstruction/src/placing.rt": "run_drift",
-    "inter_reconstruction/src/samples.rt": "run_drift",
+    "inter_reconstruction/src/placing.rt": "try_placing",
+    "inter_reconstruction/src/samples.rt": "try_placing",
 }
 
-# The crates whose definitions are mutated, and the modules of cases that judge each, its own first.
+# The crates whose definitions are mutated, and the modules of cases that judge each, its own first, and of these the small ones.
 CASES = {
-    "combine_predictions": ["Averaging", "Worked", "Forming", "Vectors", "Entries", "Macroblocks", "Placing", "Runs"],
-    "forming_predictions": ["Forming", "Worked", "Vectors", "Macroblocks", "Placing", "Runs"],
-    "pmv": ["Vectors", "Entries", "Worked", "Macroblocks", "Runs"],
-    "inter_reconstruction": ["Macroblocks", "Placing", "Runs", "Entries"],
-    "fozdrik": ["Entries"],
-    "drift": ["Runs"],
+    "combine_predictions": ["Averaging", "FormingFew", "VectorsFew", "Worked", "Forming", "Vectors", "Entries", "Macroblocks", "Placing", "Runs"],
+    "forming_predictions": ["FormingFew", "Forming", "Worked", "Vectors", "Macroblocks", "Placing", "Runs"],
+    "pmv": ["VectorsFew", "Vectors", "Entries", "Worked", "Macroblocks", "Runs"],
+    "inter_reconstruction": ["MacroblocksFew", "Macroblocks", "Placing", "Runs", "Entries"],
+    "fozdrik": ["EntriesFew", "Entries"],
+    "drift": ["RunsFew", "Runs"],
 }
 FIRST = {"inter_reconstruction/specs/Placing.antt": "Placing", "pmv/specs/Kinds.antt": "Entries"}
 # the crates whose definitions a module of cases needs: as few as can be, since each check reads them
@@ -56,6 +57,8 @@ NEEDS = {
     "Worked": LAYERS[:4] + ["worked_cases"],
     "Runs": LAYERS + ["drift"],
 }
+# of one kind in one function so many at most, evenly, unless all are asked for: long calls have dozens that are much alike
+MOST = 4
 # a check of a definition's mutant that takes longer computes something absurd
 CHECK_SECONDS = 120
 
@@ -90,6 +93,14 @@ def all_mutants():
     return found
 
 
+def some_of(mutants):
+    groups = {}
+    for m in mutants:
+        groups.setdefault((m.path, m.edit.function, m.edit.kind), []).append(m.key)
+    kept = {g[i * len(g) // MOST] if len(g) > MOST else k for g in groups.values() for i, k in enumerate(g) if i < MOST}
+    return [m for m in mutants if m.key in kept]
+
+
 class CodeCourt:
     """Judges mutants of the code, in a folder of its own."""
 
@@ -116,13 +127,12 @@ class CodeCourt:
         names = sorted(JUDGES[mutant.crate], key=lambda n: n != RATHER.get(mutant.path))
         try:
             flat.write(path, text[: edit.start] + edit.text + text[edit.end :])
-            for build in (judges.PLAIN, judges.CHECKED, judges.SANITIZED):
-                for name in names:
-                    if build not in self.judges[name].builds:
-                        continue
-                    verdict, why = self.judges[name].judged(build)
-                    if verdict != SURVIVED:
-                        return verdict, f"{name}, {build}: {why}"
+            # what all let pass is run by the first of them in its other builds
+            trials = [(name, judges.PLAIN) for name in names] + [(names[0], build) for build in self.judges[names[0]].builds[1:]]
+            for name, build in trials:
+                verdict, why = self.judges[name].judged(build)
+                if verdict != SURVIVED:
+                    return verdict, f"{name}, {build}: {why}"
             return SURVIVED, ""
         finally:
             flat.write(path, text)
@@ -135,8 +145,9 @@ class DefinitionCourt:
         self.rt, self.folder = rt, folder
         modules, table = cases.modules(REPOSITORY)
         for name in sorted({n for crate in crates for n in CASES[crate]}):
-            flat.make(REPOSITORY, self.path(name), {name: modules[name]}, NEEDS[name])
-            if "worked_cases" in NEEDS[name]:
+            needs = NEEDS[name.removesuffix("Few")]
+            flat.make(REPOSITORY, self.path(name), {name: modules[name]}, needs)
+            if "worked_cases" in needs:
                 flat.write(self.path(name, "specs", "worked_cases", "Cases.antt"), flat.renamed(table))
             verdict, why = self.checked(name)
             if verdict != SURVIVED:
@@ -196,6 +207,17 @@ def read_survivors():
     return reasons
 
 
+def read_verdicts(path):
+    """the verdicts of a run before, but for those that failed"""
+    known = {}
+    if os.path.exists(path):
+        for line in flat.read(path).split("\n"):
+            fields = line.split("\t")
+            if len(fields) == 4 and fields[0] != "failed":
+                known[fields[2]] = (fields[0], fields[3])
+    return known
+
+
 # ---- running
 
 courts = {}
@@ -226,11 +248,13 @@ def try_one(mutant):
 def main():
     ap = argparse.ArgumentParser(description=__doc__)
     ap.add_argument("crates", nargs="*", help="crates to mutate, or src or specs alone; all, if none is named")
+    ap.add_argument("--all", action="store_true", help=f"all mutants, and not at most {MOST} of a kind in a function")
     ap.add_argument("--every", type=int, default=1, help="every Nth mutant alone")
     ap.add_argument("--jobs", type=int, default=1, help="so many at a time")
     ap.add_argument("--rt", default="rt")
     ap.add_argument("--folder", default=os.path.join(REPOSITORY, "target", "mutate"))
     ap.add_argument("--only", default="", help="mutants whose key has this text alone")
+    ap.add_argument("--resume", action="store_true", help="go on with a run that was stopped, if nothing has changed since")
     ap.add_argument("--survivors", action="store_true", help="those alone that survivors.txt names")
     ap.add_argument("--list", action="store_true", help="print the mutants, and run none")
     o = ap.parse_args()
@@ -242,6 +266,8 @@ def main():
     reasons = read_survivors()
     mutants = all_mutants()
     todo = [m for m in mutants if m.part in parts and (not named or m.crate in named) and o.only in m.key]
+    if not (o.all or o.only or o.survivors):
+        todo = some_of(todo)
     if o.survivors:
         todo = [m for m in todo if m.key in reasons]
     todo = todo[:: o.every]
@@ -253,9 +279,14 @@ def main():
     began, counts = time.monotonic(), {row: {} for row in rows}
     survivors, failed, unexplained = set(), [], []
     os.makedirs(o.folder, exist_ok=True)
-    print(f"{len(todo)} mutants; verdicts go to {os.path.relpath(o.folder)}/verdicts.txt")
-    with open(os.path.join(o.folder, "verdicts.txt"), "w") as log, multiprocessing.Pool(o.jobs, open_courts, (o.folder, o.rt, rows)) as pool:
-        for n, (mutant, (verdict, why)) in enumerate(pool.imap(try_one, todo), 1):
+    path = os.path.join(o.folder, "verdicts.txt")
+    known = read_verdicts(path) if o.resume else {}
+    before = [(m, known[m.key]) for m in todo if m.key in known]
+    left = [m for m in todo if m.key not in known]
+    print(f"{len(todo)} mutants; verdicts go to {os.path.relpath(path)}", flush=True)
+    rows_left = list(dict.fromkeys((m.part, m.crate) for m in left))
+    with open(path, "w") as log, multiprocessing.Pool(o.jobs, open_courts, (o.folder, o.rt, rows_left)) as pool:
+        for n, (mutant, (verdict, why)) in enumerate(itertools.chain(before, pool.imap(try_one, left)), 1):
             count = counts[mutant.part, mutant.crate]
             count[verdict] = count.get(verdict, 0) + 1
             log.write(f"{verdict}\t{mutant.edit.kind}\t{mutant.key}\t{' '.join(why.split())[:200]}\n")
