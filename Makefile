@@ -18,6 +18,11 @@
 # make differential    build the Rust original, see that the lists in the repository are its answers, and compare the
 #                      library with it, call by call through C, by the million; SEED=N and COUNT=N draw other cases or more
 # make lists           make those lists anew
+# make mutate          try small mutations of the code against the lists and the fuzzer, without proof, and of the definitions
+#                      against cases that the prover computes; each that nothing notices has to be in mutate/survivors.txt,
+#                      with a reason. EVERY=N for every Nth alone, ARGS='pmv src' for some crates, or for the code or the
+#                      definitions (specs) alone, JOBS=N for so many at a time; needs python3 and a compiler with the
+#                      address sanitizer
 # make bench           measure the port beside the Rust original, plain C, and the half-sample functions of libavcodec and
 #                      libmpeg2 where Debian's libavcodec-dev and libmpeg2-4-dev are installed, and print tables, with the
 #                      marks; ARGS='--quick macroblocks' for fewer repetitions, or for some of the tables alone
@@ -45,7 +50,7 @@ sources = crates.txt $(shell find $(addprefix crates/,$(1)) -name '*.rt' -o -nam
 .NOTPARALLEL:
 
 .PHONY: all declarations symbols header-test example-check sanitize fuzz fuzz-check fuzz-coverage picture demonstration \
-	plot forms-check test differential lists-check compare lists bench bench-counts clean
+	plot forms-check test differential lists-check compare lists mutate bench bench-counts clean
 
 all: $(LIBRARY)
 	@mkdir -p build
@@ -266,6 +271,9 @@ compare: $(LIBRARY)
 
 lists:
 	cd differential && $(CARGO) run --release --offline --bin lists
+
+mutate:
+	@python3 mutate/mutate.py --rt $(RT) $(if $(EVERY),--every $(EVERY)) $(if $(JOBS),--jobs $(JOBS)) $(ARGS)
 
 # what the benchmark is linked with: libraries of the port, and the contestants in C
 BENCH = build/bench
