@@ -140,12 +140,23 @@ class Mutants:
                 self.add(at, after, "", "operator")
             elif word in self.constants and len(self.constants) > 1:
                 self.add(at, after, self.constants[(self.constants.index(word) + 1) % len(self.constants)], "operand")
+            elif word == "eqb" and self.second_argument(tokens, i) == "0":
+                pass  # no number is below 0
             elif word in NAMES:
                 self.add(at, after, NAMES[word], "operand")
             else:
                 self.constructor(word, at, after)
             if word in self.types or word == "cond":
                 self.exchange(word, tokens, i, variables)
+
+    def second_argument(self, tokens, i):
+        k, depth = i + 1, 0
+        while True:
+            depth += tokens[k][1] == "("
+            depth -= tokens[k][1] == ")"
+            k += 1
+            if depth == 0:
+                return tokens[k][1]
 
     def variables(self, definition, left, left_end):
         """the variables of a clause that stand for a whole argument, by its type"""

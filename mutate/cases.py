@@ -382,7 +382,10 @@ def pmv(repository):
             f"decoded {words} ported .pmv ≡ {eight(c[21:29])}",
             f"partRefusal {words} ported ≡ {c[16]}",
         )
-    for g, c in selection(kind(5), lambda x: (x[0], x[1][21], x[1][9], x[1][10], x[1][19], x[1][20] == 2), 1, 100):
+    vectors = selection(kind(5), lambda x: (x[0], x[1][21], x[1][9], x[1][10], x[1][19], x[1][20] == 2), 1, 100)
+    # the vertical component alone is halved: priors that would be accepted halved
+    vectors += [x for x in kind(5) if x[0] == "l" and x[1][19:22] == [0, 2, 6] and x not in vectors]
+    for g, c in vectors:
         r, s = kind_of("VectorIndex", c[9]), kind_of("Direction", c[10])
         mv = f"(vector {z(c[11])} {residual(c[12], c[13])} {z(c[14])} {residual(c[15], c[16])})"
         h, v = component(0, c[22:26])[2], component(0, c[26:30])[2]
@@ -591,7 +594,8 @@ def macroblocks(repository):
         answer = int(rest[2])
         said = f"Refused {answer}" if answer else "Done"
         m.case(f"predictionAnswer ({refusal}) ≡ {said}", f"predictionNumber ({said}) ≡ {answer}")
-    for group, c, f, b in selection([x for x in calls.calls if x[0] == "u"], lambda x: tuple(x[1][1:14]) + tuple(tail(x[1])[1:3]), 1, 150):
+    several = selection([x for x in calls.calls if x[0] == "u"], lambda x: tuple(x[1][1:14]) + tuple(tail(x[1])[1:3]), 1, 150)
+    for group, c, f, b in several + [x for x in calls.calls if x[0] == "v"]:
         refusal, _, _, _, _, rest = call(c, f or no_planes, b or no_planes, numbers(f or no_planes), numbers(b or no_planes))
         m.case(f"{refusal} ≡ {rest[2]}")
     # and samples, some of each macroblock
@@ -655,6 +659,117 @@ use Rattle.inter_reconstruction.specs.declared.placing.MacroblockPlacement.the-
             f"placingNumber ({said}) ≡ {c.number}",
         )
     return m
+
+
+# ---- steps: with zero vectors a macroblock is copied, or is the mean of two, so that what a run leaves can be told without prediction
+
+
+class Run:
+    """pictures of one geometry, rounded and unrounded, and the steps that were taken; every sample is another number at first"""
+
+    def __init__(self, name, format, w, h):
+        self.name, self.format, self.w, self.h = name, format, w, h
+        self.sides = placing.plane_sides(format, w, h)
+        first = lambda n, c, k: 4000 * n + 1000 * c + k
+        counts = [self.sides[2 * c] * self.sides[2 * c + 1] for c in range(3)]
+        self.first = [[[first(n, c, k) for k in range(counts[c])] for c in range(3)] for n in range(3)]
+        self.rounded = [[list(plane) for plane in picture] for picture in self.first]
+        self.exact = [[[8**n * v for v in plane] for plane in picture] for n, picture in enumerate(self.first)]
+        self.steps = []
+
+    def step(self, target, forward, backward, column, row, directions=(False, False), refused=False):
+        """`directions` says which have motion; without any the forward reference is copied"""
+        number = lambda j: "none" if j is None else f"(some {j})"
+        motion = lambda there: "still" if there else "FrameDirection.Absent"
+        moved = f"frameBased (record {{ forward = {motion(directions[0])}; backward = {motion(directions[1])} }})"
+        fields = f"target = {target}; forward = {number(forward)}; backward = {number(backward)}; column = {column}; row = {row}"
+        self.steps.append(f"record {{ {fields}; motion = {moved} }}")
+        if refused:
+            return
+        used = [forward] if directions[0] or not directions[1] else []
+        used += [backward] if directions[1] else []
+        for c in range(3):
+            w = self.sides[2 * c]
+            bw, bh = (16, 16) if c == 0 else (placing.columns(self.format, 16), placing.lines(self.format, 16))
+            for k in ((row * bh + y) * w + column * bw + x for y in range(bh) for x in range(bw)):
+                samples = [self.rounded[j][c][k] for j in used]
+                self.rounded[target][c][k] = (sum(samples) + len(samples) // 2) // len(samples)
+                exact = sum(4 * 8 ** (target - 1 - j) * self.exact[j][c][k] for j in used)
+                self.exact[target][c][k] = exact * (2 if len(used) == 1 else 1)
+
+
+def steps(repository):
+    m = Module(
+        FRAMES_HEAD
+        + """
+use Prim.Native.Nat.{_<_, _≤_}
+use native.Mathlib.Omega.{arith}
+use Rattle.inter_reconstruction.specs.Placing.{stored, pictureFits, wellFormed}
+use Rattle.drift.specs.Steps.{Step, frameBased, Pictures, stepPredictionRefusal, prediction, stepPlacingRefusal, placement, afterSteps}
+use Rattle.drift.specs.Unrounded.{tableRefusal, fittingLengths, unroundedPrediction, unroundedPlacement, afterUnroundedSteps, inUnits}
+use Rattle.drift.specs.Drift.{Fitting, Lower, InRange, Near, DriftWithin}
+""",
+        FRAMES_UNFOLDING
+        + " stored pictureFits wellFormed stepPredictionRefusal prediction stepPlacingRefusal placement tableRefusal unroundedPrediction unroundedPlacement",
+    )
+    m.define(FRAMES_HELP.split("\n\n")[0])
+    m.define("abbrev still : FrameDirection\nstill = FrameDirection.Present (record { horizontal = pos 0; vertical = pos 0 })")
+    both, forward, backward = (True, True), (True, False), (False, True)
+    components = ("luma", "cb", "cr")
+    for name, format, w, h, cell in (("wide", 1, 32, 16, (1, 0)), ("high", 0, 16, 32, (0, 1))):
+        counts = [len(p) for p in Run(name, format, w, h).first[0]]
+        clauses = [f"{name}First n {c} = tabulate {counts[k]} (λ (i : ℕ). 4000 * n + {1000 * k} + i)" for k, c in enumerate(components)]
+        m.define(f"abbrev {name} : FrameGeometry\n{name} = geometry {w} {h} {kind_of('ChromaFormat', format)}")
+        m.define(f"abbrev {name}First : Pictures\n" + "\n".join(clauses))
+        # short lists, since all steps are taken again for each sample
+        lists = [[(1, 0, None, *cell)], [(2, 0, 1, *cell, both)]]
+        if name == "wide":
+            lists += [[(2, None, 0, *cell, backward)], [(1, 0, None, *cell), (2, 1, None, *cell, forward)]]
+        for steps in lists:
+            run = Run(name, format, w, h)
+            for step in steps:
+                run.step(*step)
+            words = f"({' ∷ '.join([f'({t})' for t in run.steps] + ['[]'])})"
+            target = steps[-1][0]
+            for k, i in ((0, counts[0] - 1), (1, counts[1] - 1)):
+                taken = f"afterSteps {name} {words} {name}First {target} {components[k]}"
+                exact = f"afterUnroundedSteps {name} {words} (inUnits {name}First) {target} {components[k]}"
+                m.case(f"getD ({taken}) {i} 0 ≡ {run.rounded[target][k][i]}")
+                m.case(f"getD ({exact}) {i} 0 ≡ {run.exact[target][k][i]}")
+        if name == "high":
+            continue
+        # what is refused: without the forward reference or the backward one, cells outside, or too far
+        outside = (cell[0] + 1, cell[1]), (cell[0], cell[1] + 1)
+        refused = [(16, 16, 0, (None, 1, 0, 0)), (17, 17, 0, (0, None, 0, 0, both)), (13, 13, 20, (0, 1, 1024, 0)), (13, 13, 20, (0, 1, 0, 1024))]
+        refused += [(20, 0, 20, (0, 1, *other, both)) for other in outside]
+        for table, predicting, placing_, step in refused:
+            run = Run(name, format, w, h)
+            run.step(2, *step, refused=True)
+            m.case(
+                f"tableRefusal {name} ({run.steps[0]}) ≡ {table}",
+                f"stepPredictionRefusal {name} ({run.steps[0]}) {name}First ≡ {predicting}",
+                f"stepPlacingRefusal {name} ({run.steps[0]}) {name}First ≡ {placing_}",
+            )
+    m.case("fittingLengths wide luma ≡ 512", "fittingLengths wide cb ≡ 256", "fittingLengths high luma ≡ 512", "fittingLengths high cr ≡ 128")
+    # what the claim's parts say, by what follows from each
+    m.define(CLAIMS)
+    return m
+
+
+CLAIMS = """pub fitting-last : (p : Pictures) → Fitting wide 2 p → length (p 2 luma) ≡ 512
+fitting-last p h = h 2 luma (omega arith)
+
+pub lower-is : (n j : ℕ) → Lower n (some j) → j < n
+lower-is n j h = h
+
+pub lower-of : (n j : ℕ) → j < n → Lower n (some j)
+lower-of n j h = h
+
+pub within-is : DriftWithin 2 9 5
+    → (p : Pictures)
+    → Fitting wide 3 p
+    → Near 2 9 5 (getD (afterSteps wide [] p 2 cb) 7 0) (getD (afterUnroundedSteps wide [] (inUnits p) 2 cb) 7 0)
+within-is h p f = h wide 3 p f [] tt (omega arith) cb 7"""
 
 
 # ---- the C entry points: the lists' cases by their numbers and bytes, and numbers without a meaning
@@ -879,7 +994,7 @@ def worked(repository):
 def modules(repository):
     """the modules of cases by name, and the table of worked_cases. `XFew` has one in eight of the cases of X: it notices most, and soon."""
     table, cases, runs, few = worked(repository)
-    made = {"Averaging": averaging, "Forming": forming, "Vectors": pmv, "Macroblocks": macroblocks, "Placing": placings, "Entries": entries}
+    made = {"Averaging": averaging, "Forming": forming, "Vectors": pmv, "Macroblocks": macroblocks, "Placing": placings, "Entries": entries, "Steps": steps}
     found = {"Worked": table, "Runs": runs, "RunsFew": few}
     for name, make in made.items():
         module = make(repository)

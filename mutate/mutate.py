@@ -40,11 +40,11 @@ CASES = {
     "combine_predictions": ["Averaging", "FormingFew", "VectorsFew", "Worked", "Forming", "Vectors", "Entries", "Macroblocks", "Placing", "Runs"],
     "forming_predictions": ["FormingFew", "Forming", "Worked", "Vectors", "Macroblocks", "Placing", "Runs"],
     "pmv": ["VectorsFew", "Vectors", "Entries", "Worked", "Macroblocks", "Runs"],
-    "inter_reconstruction": ["MacroblocksFew", "Macroblocks", "Placing", "Runs", "Entries"],
+    "inter_reconstruction": ["MacroblocksFew", "PlacingFew", "Macroblocks", "Placing", "RunsFew", "Runs", "Entries"],
     "fozdrik": ["EntriesFew", "Entries"],
-    "drift": ["RunsFew", "Runs"],
+    "drift": ["StepsFew", "Steps", "RunsFew", "Runs"],
 }
-FIRST = {"inter_reconstruction/specs/Placing.antt": "Placing", "pmv/specs/Kinds.antt": "Entries"}
+FIRST = {"inter_reconstruction/specs/Placing.antt": "PlacingFew", "pmv/specs/Kinds.antt": "Entries"}
 # the crates whose definitions a module of cases needs: as few as can be, since each check reads them
 LAYERS = ["laws", "combine_predictions", "forming_predictions", "pmv", "inter_reconstruction"]
 NEEDS = {
@@ -56,11 +56,12 @@ NEEDS = {
     "Entries": LAYERS + ["fozdrik"],
     "Worked": LAYERS[:4] + ["worked_cases"],
     "Runs": LAYERS + ["drift"],
+    "Steps": LAYERS + ["drift"],
 }
 # of one kind in one function so many at most, evenly, unless all are asked for: long calls have dozens that are much alike
 MOST = 4
 # a check of a definition's mutant that takes longer computes something absurd
-CHECK_SECONDS = 120
+CHECK_SECONDS = 90
 
 
 class Mutant:

@@ -70,12 +70,10 @@ def refusals():
             found.append(Case(18, format, 32, 16, 0, 0, bytes=n))
         right = plane_sides(format, 32, 48)
         for k in range(6):
-            sides = list(right)
-            sides[k] += 2
-            found.append(Case(20, format, 32, 48, 0, 0, sides=sides))
-            sides = list(sides)
-            sides[k] = LARGEST + 2
-            found.append(Case(14, format, 32, 48, 0, 0, sides=sides))
+            for number, v in ((20, right[k] + 2), (20, right[k] - 2), (14, LARGEST + 2)):
+                sides = list(right)
+                sides[k] = v
+                found.append(Case(number, format, 32, 48, 0, 0, sides=sides))
         for k in range(3):
             for d in (1, -1):
                 counts = [right[0] * right[1], right[2] * right[3], right[4] * right[5]]

@@ -213,6 +213,9 @@ fn motion_type_of(present: i64, v: i64) -> OptionMotionType {
         let OptionPredictionType::Some(t) = PredictionType::from_number(code_of(v)) else {
             return OptionMotionType::None;
         };
+        if t.number() != code_of(v) {
+            return OptionMotionType::None;
+        }
         return OptionMotionType::Some(MotionType::Present(t));
     }
     if v == 0 {
@@ -416,7 +419,10 @@ fn reconstructing(n: &[i64; 40]) -> Verdict {
         t,
     );
     Verdict {
-        agrees: (number_of_component(a) == n[8]) & same_component(value_of_component(a), n, 9),
+        agrees: (number_of_component(a) == n[8])
+            & same_component(value_of_component(a), n, 9)
+            & (format.number() == code_of(n[5]))
+            & (picture.number() == code_of(n[6])),
         good: is_byte(n[3]),
     }
 }
@@ -593,7 +599,8 @@ fn scaling(n: &[i64; 40]) -> Verdict {
         agrees: (v.luma_horiz == luma_horiz)
             & (v.luma_vert == luma_vert)
             & (v.chroma_horiz == lists::i32_of(n[3]))
-            & (v.chroma_vert == lists::i32_of(n[4])),
+            & (v.chroma_vert == lists::i32_of(n[4]))
+            & (chroma.number() == code_of(n[2])),
         good: true,
     }
 }
@@ -673,7 +680,7 @@ fn reset_asked(n: &[i64; 40]) -> ResetAsked {
     ResetAsked {
         picture_coding_type: coding_type,
         spatial_temporal_weight_class: lists::byte_of(n[9]),
-        good: is_byte(n[9]),
+        good: is_byte(n[9]) & (coding_type.number() == code_of(n[8])),
     }
 }
 

@@ -174,5 +174,10 @@ pub both-sides : (sampleOf steps hollow 2 37 ≡ 9) × (unroundedOf steps hollow
 unfolding tabulate floorHalf halfFlag fieldLines clampTo rowOf sampleAt combined formed planeFits truncHalf fieldSample directionSample usedSample rectangle macroblock sameGeometry planesFit stored pictureFits wellFormed stepPredictionRefusal prediction stepPlacingRefusal placement tableRefusal unroundedPrediction unroundedPlacement
 both-sides = (refl, refl)
 
+-- a sample of picture 1's Cb, by vectors without a half: 3 grey steps on both sides
+pub whole-vectors : (getD (afterSteps g steps hollow 1 cb) 9 0 ≡ 3) × (getD (afterUnroundedSteps g steps (inUnits hollow) 1 cb) 9 0 ≡ 24)
+unfolding tabulate floorHalf halfFlag fieldLines clampTo rowOf sampleAt combined formed planeFits truncHalf fieldSample directionSample usedSample rectangle macroblock sameGeometry planesFit stored pictureFits wellFormed stepPredictionRefusal prediction stepPlacingRefusal placement tableRefusal unroundedPrediction unroundedPlacement
+whole-vectors = (refl, refl)
+
 pub instance : Near 2 8 2 (sampleOf steps hollow 2 37) (unroundedOf steps hollow 2 37)
 instance = drift 2 g 2 hollow (fits (λ (k : ℕ). triangle (k % 16) (k / 16)) 2) steps in-range (omega arith) luma 37

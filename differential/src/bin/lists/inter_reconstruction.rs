@@ -123,6 +123,7 @@ The last group is wrong on purpose."
     refused_outputs(&mut maker);
     refused_planes(&mut maker);
     orders(&mut maker);
+    orders_of_two(&mut maker);
     wrong_on_purpose(&mut maker);
     maker.list
 }
@@ -995,9 +996,36 @@ fn cause(maker: &mut Maker, call: Call, directions: Directions, holds: impl Fn(u
     }
 }
 
+/// 15 of either reference comes before 14 of either, though one of the two has no other geometry.
+fn orders_of_two(maker: &mut Maker) {
+    maker.list.group(
+        "v. document 01's and not the Rust's: both directions, and one reference alone that declares another
+width, height or format, beside a plane of it or of the other that does not fit: 15 before 14
+(this tells a port that looks at one reference after the other)",
+    );
+    for (call, format) in calls_and_formats() {
+        for other in REFERENCES {
+            for unfit in REFERENCES {
+                maker.picture(16, 16, format);
+                let mut planes = picture_planes(16, 16, format);
+                planes[maker.rng.below(3)].length -= 1;
+                maker.set(unfit, planes);
+                let motion = maker.draw_motion(call, BOTH, 9);
+                let mut request = maker.request(motion, (0, 0));
+                let geometry = Some(maker.rng.pick(&other_geometries(request.dest)));
+                match other {
+                    Direction::Forward => request.forward = geometry,
+                    Direction::Backward => request.backward = geometry,
+                }
+                maker.ask_for(15, request);
+            }
+        }
+    }
+}
+
 fn wrong_on_purpose(maker: &mut Maker) {
     maker.list.group(
-        "v. wrong on purpose, so that the expected output shows that the comparison can fail; only the
+        "w. wrong on purpose, so that the expected output shows that the comparison can fail; only the
 lines that set planes are right: the last byte of a macroblock off by one, of each call; a refusal
 for an answer; 17 where 16 is right; an answer for a refusal; a byte of a refused macroblock's
 output off by one; a macroblock from the other field",
