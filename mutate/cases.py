@@ -661,117 +661,6 @@ use Rattle.inter_reconstruction.specs.declared.placing.MacroblockPlacement.the-
     return m
 
 
-# ---- steps: with zero vectors a macroblock is copied, or is the mean of two, so that what a run leaves can be told without prediction
-
-
-class Run:
-    """pictures of one geometry, rounded and unrounded, and the steps that were taken; every sample is another number at first"""
-
-    def __init__(self, name, format, w, h):
-        self.name, self.format, self.w, self.h = name, format, w, h
-        self.sides = placing.plane_sides(format, w, h)
-        first = lambda n, c, k: 4000 * n + 1000 * c + k
-        counts = [self.sides[2 * c] * self.sides[2 * c + 1] for c in range(3)]
-        self.first = [[[first(n, c, k) for k in range(counts[c])] for c in range(3)] for n in range(3)]
-        self.rounded = [[list(plane) for plane in picture] for picture in self.first]
-        self.exact = [[[8**n * v for v in plane] for plane in picture] for n, picture in enumerate(self.first)]
-        self.steps = []
-
-    def step(self, target, forward, backward, column, row, directions=(False, False), refused=False):
-        """`directions` says which have motion; without any the forward reference is copied"""
-        number = lambda j: "none" if j is None else f"(some {j})"
-        motion = lambda there: "still" if there else "FrameDirection.Absent"
-        moved = f"frameBased (record {{ forward = {motion(directions[0])}; backward = {motion(directions[1])} }})"
-        fields = f"target = {target}; forward = {number(forward)}; backward = {number(backward)}; column = {column}; row = {row}"
-        self.steps.append(f"record {{ {fields}; motion = {moved} }}")
-        if refused:
-            return
-        used = [forward] if directions[0] or not directions[1] else []
-        used += [backward] if directions[1] else []
-        for c in range(3):
-            w = self.sides[2 * c]
-            bw, bh = (16, 16) if c == 0 else (placing.columns(self.format, 16), placing.lines(self.format, 16))
-            for k in ((row * bh + y) * w + column * bw + x for y in range(bh) for x in range(bw)):
-                samples = [self.rounded[j][c][k] for j in used]
-                self.rounded[target][c][k] = (sum(samples) + len(samples) // 2) // len(samples)
-                exact = sum(4 * 8 ** (target - 1 - j) * self.exact[j][c][k] for j in used)
-                self.exact[target][c][k] = exact * (2 if len(used) == 1 else 1)
-
-
-def steps(repository):
-    m = Module(
-        FRAMES_HEAD
-        + """
-use Prim.Native.Nat.{_<_, _≤_}
-use native.Mathlib.Omega.{arith}
-use Rattle.inter_reconstruction.specs.Placing.{stored, pictureFits, wellFormed}
-use Rattle.drift.specs.Steps.{Step, frameBased, Pictures, stepPredictionRefusal, prediction, stepPlacingRefusal, placement, afterSteps}
-use Rattle.drift.specs.Unrounded.{tableRefusal, fittingLengths, unroundedPrediction, unroundedPlacement, afterUnroundedSteps, inUnits}
-use Rattle.drift.specs.Drift.{Fitting, Lower, InRange, Near, DriftWithin}
-""",
-        FRAMES_UNFOLDING
-        + " stored pictureFits wellFormed stepPredictionRefusal prediction stepPlacingRefusal placement tableRefusal unroundedPrediction unroundedPlacement",
-    )
-    m.define(FRAMES_HELP.split("\n\n")[0])
-    m.define("abbrev still : FrameDirection\nstill = FrameDirection.Present (record { horizontal = pos 0; vertical = pos 0 })")
-    both, forward, backward = (True, True), (True, False), (False, True)
-    components = ("luma", "cb", "cr")
-    for name, format, w, h, cell in (("wide", 1, 32, 16, (1, 0)), ("high", 0, 16, 32, (0, 1))):
-        counts = [len(p) for p in Run(name, format, w, h).first[0]]
-        clauses = [f"{name}First n {c} = tabulate {counts[k]} (λ (i : ℕ). 4000 * n + {1000 * k} + i)" for k, c in enumerate(components)]
-        m.define(f"abbrev {name} : FrameGeometry\n{name} = geometry {w} {h} {kind_of('ChromaFormat', format)}")
-        m.define(f"abbrev {name}First : Pictures\n" + "\n".join(clauses))
-        # short lists, since all steps are taken again for each sample
-        lists = [[(1, 0, None, *cell)], [(2, 0, 1, *cell, both)]]
-        if name == "wide":
-            lists += [[(2, None, 0, *cell, backward)], [(1, 0, None, *cell), (2, 1, None, *cell, forward)]]
-        for steps in lists:
-            run = Run(name, format, w, h)
-            for step in steps:
-                run.step(*step)
-            words = f"({' ∷ '.join([f'({t})' for t in run.steps] + ['[]'])})"
-            target = steps[-1][0]
-            for k, i in ((0, counts[0] - 1), (1, counts[1] - 1)):
-                taken = f"afterSteps {name} {words} {name}First {target} {components[k]}"
-                exact = f"afterUnroundedSteps {name} {words} (inUnits {name}First) {target} {components[k]}"
-                m.case(f"getD ({taken}) {i} 0 ≡ {run.rounded[target][k][i]}")
-                m.case(f"getD ({exact}) {i} 0 ≡ {run.exact[target][k][i]}")
-        if name == "high":
-            continue
-        # what is refused: without the forward reference or the backward one, cells outside, or too far
-        outside = (cell[0] + 1, cell[1]), (cell[0], cell[1] + 1)
-        refused = [(16, 16, 0, (None, 1, 0, 0)), (17, 17, 0, (0, None, 0, 0, both)), (13, 13, 20, (0, 1, 1024, 0)), (13, 13, 20, (0, 1, 0, 1024))]
-        refused += [(20, 0, 20, (0, 1, *other, both)) for other in outside]
-        for table, predicting, placing_, step in refused:
-            run = Run(name, format, w, h)
-            run.step(2, *step, refused=True)
-            m.case(
-                f"tableRefusal {name} ({run.steps[0]}) ≡ {table}",
-                f"stepPredictionRefusal {name} ({run.steps[0]}) {name}First ≡ {predicting}",
-                f"stepPlacingRefusal {name} ({run.steps[0]}) {name}First ≡ {placing_}",
-            )
-    m.case("fittingLengths wide luma ≡ 512", "fittingLengths wide cb ≡ 256", "fittingLengths high luma ≡ 512", "fittingLengths high cr ≡ 128")
-    # what the claim's parts say, by what follows from each
-    m.define(CLAIMS)
-    return m
-
-
-CLAIMS = """pub fitting-last : (p : Pictures) → Fitting wide 2 p → length (p 2 luma) ≡ 512
-fitting-last p h = h 2 luma (omega arith)
-
-pub lower-is : (n j : ℕ) → Lower n (some j) → j < n
-lower-is n j h = h
-
-pub lower-of : (n j : ℕ) → j < n → Lower n (some j)
-lower-of n j h = h
-
-pub within-is : DriftWithin 2 9 5
-    → (p : Pictures)
-    → Fitting wide 3 p
-    → Near 2 9 5 (getD (afterSteps wide [] p 2 cb) 7 0) (getD (afterUnroundedSteps wide [] (inUnits p) 2 cb) 7 0)
-within-is h p f = h wide 3 p f [] tt (omega arith) cb 7"""
-
-
 # ---- the C entry points: the lists' cases by their numbers and bytes, and numbers without a meaning
 
 
@@ -949,8 +838,31 @@ fits k n cr h = refl
 """
 
 
+# what the parts of the claim about drift say, by what follows from each
+CLAIM_USES = """use native.Mathlib.Omega.{arith}
+use lib.ListN.{length}
+use Rattle.drift.specs.Drift.{Fitting, Lower, Near, DriftWithin}
+"""
+CLAIMS = """
+pub fitting-last : (p : Pictures) → Fitting wide 2 p → length (p 2 luma) ≡ 512
+fitting-last p h = h 2 luma (omega arith)
+
+pub lower-is : (n j : ℕ) → Lower n (some j) → j < n
+lower-is n j h = h
+
+pub lower-of : (n j : ℕ) → j < n → Lower n (some j)
+lower-of n j h = h
+
+pub within-is : DriftWithin 2 9 5
+    → (p : Pictures)
+    → Fitting wide 3 p
+    → Near 2 9 5 (getD (afterSteps wide [] p 2 cb) 7 0) (getD (afterUnroundedSteps wide [] (inUnits p) 2 cb) 7 0)
+within-is h p f = h wide 3 p f [] tt (omega arith) cb 7
+"""
+
+
 def worked(repository):
-    """The table's claim and the runs of the drift figure. What is claimed for all numbers there is claimed for some here, and the theorem about
+    """The table's claim, the runs of the drift figure and the steps. What is claimed for all numbers there is claimed for some here, and the theorem about
     drift is a hypothesis: a proof of it is no case."""
 
     def edited(text, *changes):
@@ -988,14 +900,16 @@ def worked(repository):
             ),
         )
     few = edited(runs, (r"pub meets-above : .*?\n\n", ""), (r"pub meets-below : .*?\n\n", ""))
-    return table, cases, runs, few
+    with open(os.path.join(folder, "proofs", "Steps.antt")) as f:
+        steps = CLAIM_USES + edited(f.read(), (r"Nat\.\{ℕ, ", "Nat.{ℕ, _<_, ")) + CLAIMS
+    made = {"Worked": table, "Runs": runs, "RunsFew": few, "Steps": steps, "StepsFew": edited(steps, (r"pub leave : .*?\n\n", ""))}
+    return made, cases
 
 
 def modules(repository):
-    """the modules of cases by name, and the table of worked_cases. `XFew` has one in eight of the cases of X: it notices most, and soon."""
-    table, cases, runs, few = worked(repository)
-    made = {"Averaging": averaging, "Forming": forming, "Vectors": pmv, "Macroblocks": macroblocks, "Placing": placings, "Entries": entries, "Steps": steps}
-    found = {"Worked": table, "Runs": runs, "RunsFew": few}
+    """the modules of cases by name, and the table of worked_cases. `XFew` has some of the cases of X: it notices most, and soon."""
+    found, cases = worked(repository)
+    made = {"Averaging": averaging, "Forming": forming, "Vectors": pmv, "Macroblocks": macroblocks, "Placing": placings, "Entries": entries}
     for name, make in made.items():
         module = make(repository)
         found[name], found[name + "Few"] = module.text(), module.text(8)

@@ -3,6 +3,7 @@ pub mod Begun
 pub mod Rectangles
 pub mod Cells
 pub mod Checks
+pub mod Directions
 pub mod Stored
 pub mod Places
 pub mod Placed

@@ -3,7 +3,10 @@ use forming_predictions::FieldParity;
 use pmv::chroma::scale_chroma;
 use pmv::kinds::ChromaFormat;
 ghost use mathlib.Core.Path.{_≡_};
-ghost use Rattle.inter_reconstruction.specs.Motion.{zeroVector, zeroPair, frameUses, fieldUses, chromaVector, chromaField, chromaMotion};
+ghost use mathlib.Core.Bool.{false};
+ghost use Rattle.inter_reconstruction.specs.Motion.{zeroVector, zeroPair, frameDirection, fieldDirection, uses, frameUses, fieldUses, chromaVector, chromaField, chromaMotion};
+ghost use Rattle.inter_reconstruction.specs.declared.motion.DirectionMotion.the-variants.{Frame, Field};
+ghost use Rattle.inter_reconstruction.specs.declared.motion.OptionDirectionMotion.the-variants.{None, Some};
 
 /// A vector in half samples.
 pub struct MotionVectorPel {
@@ -90,28 +93,66 @@ fn zero_pair() -> FieldVectorPair
     }
 }
 
+// ---- the directions that are used. Each kind of motion has a match of its own: one on `DirectionMotion`, for both, would copy all of its
+// bytes at once, and wait for the stores before it
+
+/// By the backward direction, where the forward one has no motion.
+fn frame_without_forward(backward: FrameDirection) -> Uses
+    ensures { λ r. ⌜ r ≡ uses (Frame zeroVector) None (frameDirection backward) false false ⌝ }
+{
+    match backward {
+        FrameDirection::Absent => Uses::Forward(DirectionMotion::Frame(zero_vector())),
+        FrameDirection::Present(e) => Uses::Backward(DirectionMotion::Frame(e)),
+    }
+}
+
+/// By the backward direction, where the forward one has motion.
+fn frame_with_forward(d: MotionVectorPel, backward: FrameDirection) -> Uses
+    ensures { λ r. ⌜ r ≡ uses (Frame zeroVector) (Some (Frame d)) (frameDirection backward) false false ⌝ }
+{
+    match backward {
+        FrameDirection::Absent => Uses::Forward(DirectionMotion::Frame(d)),
+        FrameDirection::Present(e) => Uses::Both(
+            DirectionMotion::Frame(d),
+            DirectionMotion::Frame(e),
+        ),
+    }
+}
+
 impl FrameMotion {
     /// The directions that are used, with their motion. Where neither has motion, the forward one is, with zero vectors. That a reference is
-    /// there changes nothing: one that is used and absent is refused. Each kind of motion has a match of its own: one on `DirectionMotion`, for
-    /// both, would copy all of its bytes at once, and wait for the stores before it.
+    /// there changes nothing: one that is used and absent is refused.
     pub fn uses(self, forward_present: bool, backward_present: bool) -> Uses
         ensures { λ r. ⌜ r ≡ frameUses self «forward_present» «backward_present» ⌝ }
     {
         let forward = self.forward;
         let backward = self.backward;
         match forward {
-            FrameDirection::Absent => match backward {
-                FrameDirection::Absent => Uses::Forward(DirectionMotion::Frame(zero_vector())),
-                FrameDirection::Present(e) => Uses::Backward(DirectionMotion::Frame(e)),
-            },
-            FrameDirection::Present(d) => match backward {
-                FrameDirection::Absent => Uses::Forward(DirectionMotion::Frame(d)),
-                FrameDirection::Present(e) => Uses::Both(
-                    DirectionMotion::Frame(d),
-                    DirectionMotion::Frame(e),
-                ),
-            },
+            FrameDirection::Absent => frame_without_forward(backward),
+            FrameDirection::Present(d) => frame_with_forward(d, backward),
         }
+    }
+}
+
+/// The same by field vectors.
+fn field_without_forward(backward: FieldDirection) -> Uses
+    ensures { λ r. ⌜ r ≡ uses (Field zeroPair) None (fieldDirection backward) false false ⌝ }
+{
+    match backward {
+        FieldDirection::Absent => Uses::Forward(DirectionMotion::Field(zero_pair())),
+        FieldDirection::Present(e) => Uses::Backward(DirectionMotion::Field(e)),
+    }
+}
+
+fn field_with_forward(d: FieldVectorPair, backward: FieldDirection) -> Uses
+    ensures { λ r. ⌜ r ≡ uses (Field zeroPair) (Some (Field d)) (fieldDirection backward) false false ⌝ }
+{
+    match backward {
+        FieldDirection::Absent => Uses::Forward(DirectionMotion::Field(d)),
+        FieldDirection::Present(e) => Uses::Both(
+            DirectionMotion::Field(d),
+            DirectionMotion::Field(e),
+        ),
     }
 }
 
@@ -123,17 +164,8 @@ impl FieldBasedMotion {
         let forward = self.forward;
         let backward = self.backward;
         match forward {
-            FieldDirection::Absent => match backward {
-                FieldDirection::Absent => Uses::Forward(DirectionMotion::Field(zero_pair())),
-                FieldDirection::Present(e) => Uses::Backward(DirectionMotion::Field(e)),
-            },
-            FieldDirection::Present(d) => match backward {
-                FieldDirection::Absent => Uses::Forward(DirectionMotion::Field(d)),
-                FieldDirection::Present(e) => Uses::Both(
-                    DirectionMotion::Field(d),
-                    DirectionMotion::Field(e),
-                ),
-            },
+            FieldDirection::Absent => field_without_forward(backward),
+            FieldDirection::Present(d) => field_with_forward(d, backward),
         }
     }
 }

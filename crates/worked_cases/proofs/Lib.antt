@@ -1,3 +1,4 @@
--- That all of the table's cases hold, and runs of the drift figure that meet it.
+-- That all of the table's cases hold, runs of the drift figure that meet it, and single steps.
 pub mod Cases
 pub mod Drift
+pub mod Steps

@@ -1,54 +1,26 @@
 -- `FieldBasedMotion::uses` meets its contract.
 -- Assumes nothing.
+use mathlib.Core.Path.{_∙_}
 use borrow.Author.Needs.{needs}
+use Rattle.inter_reconstruction.specs.Motion.{zeroPair, fieldDirection}
+use Rattle.inter_reconstruction.specs.declared.motion.DirectionMotion.the-variants.{Field}
+use Rattle.inter_reconstruction.specs.declared.motion.OptionDirectionMotion.the-variants.{None, Some}
+use Rattle.inter_reconstruction.proofs.Directions.{uses-any}
 use Rattle.inter_reconstruction.proofs.motion.FieldBasedMotion.uses.Statement.{statement}
 use Rattle.inter_reconstruction.proofs.motion.FieldBasedMotion.uses.Tie as tie
 
-enum-told : tie.Need-enum-told
-enum-told c = search needs
-
-enum-told-2 : tie.Need-enum-told-2
-enum-told-2 c = search needs
-
-zero-pair-requires : tie.Need-zero-pair-requires
-zero-pair-requires c κs = search needs
-
-enum-known-backward : tie.Need-enum-known-backward
-enum-known-backward c = search needs
-
-enum-known-forward : tie.Need-enum-known-forward
-enum-known-forward c = search needs
-
-enum-told-3 : tie.Need-enum-told-3
-enum-told-3 c = search needs
-
-enum-known-backward-2 : tie.Need-enum-known-backward-2
-enum-known-backward-2 c = search needs
-
 returns : tie.Need-returns
-returns c = rw (c .before .before .before .enum-told .given .1, c .before .enum-told2 .given .1, c .zero-pair .ensures)
+returns c =
+    let a = c .before .before .before .args in
+    c .field-without-forward .ensures
+    ∙ (rw (c .before .enum-told .given .1) (uses-any (Field zeroPair) None (fieldDirection (a .self .backward)) (a .forward-present) (a .backward-present)))
 
 returns-2 : tie.Need-returns-2
-returns-2 c = rw (c .before .before .before .enum-told .given .1, c .before .backward .given .1)
-
-returns-3 : tie.Need-returns-3
-returns-3 c = rw (c .before .before .before .forward .given .1, c .enum-told3 .given .1)
-
-returns-4 : tie.Need-returns-4
-returns-4 c = rw (c .before .before .before .before .forward .given .1, c .before .backward2 .given .1)
+returns-2 c =
+    let f = c .before .before .forward in
+    let a = c .before .before .before .before .args in
+    c .field-with-forward .ensures
+    ∙ (rw (f .given .1) (uses-any (Field zeroPair) (Some (Field _)) (fieldDirection (a .self .backward)) (a .forward-present) (a .backward-present)))
 
 pub uses-spec : {M : Type 1} → statement M
-uses-spec =
-    tie.close
-    (tie.spec
-    enum-told
-    enum-told-2
-    zero-pair-requires
-    enum-known-backward
-    enum-known-forward
-    enum-told-3
-    enum-known-backward-2
-    returns
-    returns-2
-    returns-3
-    returns-4)
+uses-spec = tie.close (tie.spec (λ c. search needs) (λ c κs. search needs) (λ c. search needs) (λ c κs. search needs) returns returns-2)
