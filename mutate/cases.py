@@ -1,5 +1,5 @@
 """Cases that judge the definitions, as modules of equations which the prover computes: a selection of the lists' lines, document 01's worked
-cases and the runs of the drift figure, which worked_cases has, and for what no list has, placing and the C buffers, cases from an account
+cases and the runs of the drift figure, which worked_cases and worked_runs have, and for what no list has, placing and the C buffers, cases from an account
 of it here and in placing.py."""
 
 import os
@@ -827,7 +827,7 @@ use Rattle.inter_reconstruction.specs.declared.motion.FieldDirection.the-varian
     return m
 
 
-# ---- worked_cases
+# ---- worked_cases and worked_runs
 
 FITS = """pub fits : (k : ℕ) → Fitting g k hollow
 unfolding tabulate
@@ -869,11 +869,11 @@ def worked(repository):
         for old, new in changes:
             changed = re.sub(old, new, text, flags=re.S)
             if changed == text:
-                raise ValueError(f"crates/worked_cases has changed: {old!r} is not there")
+                raise ValueError(f"the worked cases have changed: {old!r} is not there")
             text = changed
         return text
 
-    folder = os.path.join(repository, "crates", "worked_cases")
+    folder, runs_folder = (os.path.join(repository, "crates", name) for name in ("worked_cases", "worked_runs"))
     with open(os.path.join(folder, "proofs", "Cases.antt")) as f:
         table = edited(
             f.read(),
@@ -884,7 +884,7 @@ def worked(repository):
         )
     with open(os.path.join(folder, "specs", "Cases.antt")) as f:
         cases = edited(f.read(), (r"\(\(x y : ℤ\) → (sampleAt \(field Bottom\)[^\n]*?) x y ≡ sample\)", r"(\1 (negsuc 1) (pos 3) ≡ sample)"))
-    with open(os.path.join(folder, "proofs", "Drift.antt")) as f:
+    with open(os.path.join(runs_folder, "proofs", "Drift.antt")) as f:
         runs = edited(
             f.read(),
             # pictures 1 and 2 alone: what is computed grows with the picture's number
@@ -900,10 +900,17 @@ def worked(repository):
             ),
         )
     few = edited(runs, (r"pub meets-above : .*?\n\n", ""), (r"pub meets-below : .*?\n\n", ""))
-    with open(os.path.join(folder, "proofs", "Steps.antt")) as f:
+    with open(os.path.join(runs_folder, "proofs", "Steps.antt")) as f:
         steps = CLAIM_USES + edited(f.read(), (r"Nat\.\{ℕ, ", "Nat.{ℕ, _<_, ")) + CLAIMS
-    made = {"Worked": table, "Runs": runs, "RunsFew": few, "Steps": steps, "StepsFew": edited(steps, (r"pub leave : .*?\n\n", ""))}
-    return made, cases
+    # the means alone: what these leave depends on nearly all of a step
+    means = [line.strip().removeprefix("∷ ") for line in steps.split("\n") if re.match(r" +∷ left .* still still ∷ \[\]\)", line)]
+    few_steps = edited(
+        steps,
+        (r"(\nlefts =\n).*?\n\n", lambda m: m[1] + "    " + " ∷ ".join(means + ["[]"]) + "\n\n"),
+        (r"\nleave = [^\n]*", lambda m: "\nleave = " + "((refl, refl), " * len(means) + "tt" + ")" * len(means)),
+        (r"pub refuse : .*?\n\n", ""),
+    )
+    return {"Worked": table, "Runs": runs, "RunsFew": few, "Steps": steps, "StepsFew": few_steps}, cases
 
 
 def modules(repository):

@@ -1,4 +1,2 @@
--- That all of the table's cases hold, runs of the drift figure that meet it, and single steps.
+-- That all of the table's cases hold.
 pub mod Cases
-pub mod Drift
-pub mod Steps
