@@ -474,20 +474,6 @@ fn four_eight(row: &[u8], below: &[u8], x: usize, dx: usize, out: &mut [u8])
 }
 
 /// Sixteen means of four samples. A mean of two is one instruction for all sixteen, and these are formed of such means.
-fn mean4_sixteen(a: &[u8], b: &[u8], c: &[u8], d: &[u8], out: &mut [u8])
-    requires { ⌜ (length (now a) ≡ 16) × (length (now b) ≡ 16) × (length (now c) ≡ 16) × (length (now d) ≡ 16) × (length (now out) ≡ 16) ⌝ }
-    ensures { λ r. ⌜ now (out .exit) ≡ tabulate (length (now (a .entry))) (λ (k : ℕ). mean4 (getD (now (a .entry)) k 0) (getD (now (b .entry)) k 0) (getD (now (c .entry)) k 0) (getD (now (d .entry)) k 0)) ⌝ }
-{
-    let mut upper = [0u8; 16];
-    let mut lower = [0u8; 16];
-    let mut mean = [0u8; 16];
-    mean2_samples(a, b, &mut upper);
-    mean2_samples(c, d, &mut lower);
-    mean2_samples(&upper, &lower, &mut mean);
-    sixteen_of_pairs(a, b, c, d, &upper, &lower, &mean, out);
-}
-
-/// The same out of two rows.
 fn four_sixteen(row: &[u8], below: &[u8], x: usize, dx: usize, out: &mut [u8])
     requires { ⌜ RowFits (now row) (now below) x dx 16 × (length (now out) ≡ 16) ⌝ }
     ensures { λ r. ⌜ now (out .exit) ≡ tabulate 16 (fourOf (now (row .entry)) (now (below .entry)) x dx) ⌝ }
@@ -495,12 +481,21 @@ fn four_sixteen(row: &[u8], below: &[u8], x: usize, dx: usize, out: &mut [u8])
     let right = x + dx;
     let e = x + 16;
     let f = right + 16;
+    let mut upper = [0u8; 16];
+    let mut lower = [0u8; 16];
+    let mut mean = [0u8; 16];
     let mut local = [0u8; 16];
-    mean4_sixteen(
+    mean2_samples(&row[x..e], &row[right..f], &mut upper);
+    mean2_samples(&below[x..e], &below[right..f], &mut lower);
+    mean2_samples(&upper, &lower, &mut mean);
+    sixteen_of_pairs(
         &row[x..e],
         &row[right..f],
         &below[x..e],
         &below[right..f],
+        &upper,
+        &lower,
+        &mean,
         &mut local,
     );
     copy_sixteen(&local, out);
