@@ -11,12 +11,13 @@
 # make fuzz-check      see that the fuzzer notices what is made wrong
 # make fuzz-coverage   print how many of the library's instructions the fuzzer's cases run, by valgrind and objdump
 # make picture         make docs/plate.png anew; needs python3
-# make demonstration   build the Rattle program that shows the layers one by one, proved, and run it
+# make demonstration   build the Rattle program that shows the three lower layers one by one, proved, and run it
 # make plot            draw docs/drift.svg anew, from what the program run_drift prints
 # make forms-check     see that the lines which docs/DECISIONS.md gives for document 01's forms have them
 # make test            the gate: prove everything from nothing, try the must-fail edits, run the programs
 # make differential    build the Rust original, see that the lists in the repository are its answers, and compare the
-#                      library with it, call by call through C, by the million; SEED=N and COUNT=N draw other cases or more
+#                      library with it, call by call through C, by the million; SEED=N and COUNT=N draw other cases or more;
+#                      make lists-check and make compare do one of the two
 # make lists           make those lists anew
 # make mutate          try small mutations of the code against the lists and the fuzzer, without proof, and of the definitions
 #                      against cases that the prover computes; each that nothing notices has to be in mutate/survivors.txt,
@@ -28,6 +29,7 @@
 #                      marks; ARGS='--quick macroblocks' for fewer repetitions, or for some of the tables alone
 # make bench-counts    count the instructions of fixed calls under valgrind, and print how they have changed from those that
 #                      are kept; ACCEPT=1 keeps the new ones
+# make clean           remove all that was made, what is proved included
 # differential, lists and bench need cargo and the Rust original. FOZDRIK_RUST is the folder that holds its LICENSE and
 # src/, by default ../shared/docs/src; a relative path starts here.
 
@@ -48,6 +50,8 @@ sources = crates.txt $(shell find $(addprefix crates/,$(1)) -name '*.rt' -o -nam
 
 # two commands of rt in one folder would be in each other's way
 .NOTPARALLEL:
+# what a command that failed has left is not taken for made
+.DELETE_ON_ERROR:
 
 .PHONY: all declarations symbols header-test example-check sanitize fuzz fuzz-check fuzz-coverage picture demonstration \
 	plot forms-check test differential lists-check compare lists mutate bench bench-counts clean
@@ -66,7 +70,7 @@ all: $(LIBRARY)
 $(LIBRARY): $(call sources,laws combine_predictions forming_predictions pmv inter_reconstruction fozdrik)
 	@mkdir -p build
 	@echo "proving and building $(LIBRARY), which takes some minutes"
-	@$(RT) staticlib fozdrik >build/library.log 2>&1 || { tail -n 40 build/library.log; exit 1; }
+	@$(RT) staticlib fozdrik >build/library.log 2>&1 || { tail -n 40 build/library.log; echo "all of it is in build/library.log"; exit 1; }
 
 declarations:
 	@mkdir -p build
@@ -111,11 +115,12 @@ example-check: symbols header-test
 	@command -v valgrind >/dev/null || { echo "valgrind is not installed"; exit 0; }; \
 		for name in $(EXAMPLES); do \
 			$(CC) -std=c99 -g $(C_FLAGS) examples/c/$$name.c $(LIBRARY) -o build/$$name || exit 1; \
-			valgrind -q --error-exitcode=1 --leak-check=full build/$$name $(PICTURE) >build/$$name.txt || exit 1; \
+			$(MEMCHECK) build/$$name $(PICTURE) >build/$$name.txt || exit 1; \
 			diff examples/c/expected_$$name.txt build/$$name.txt || exit 1; \
 			echo "valgrind: no error in $$name"; \
 		done
 	@command -v python3 >/dev/null || { echo "python3 is not installed"; exit 0; }; \
+		test -f $(PICTURE) || { echo "no compiler has made $(PICTURE)"; exit 0; }; \
 		python3 examples/c/png.py --check $(PICTURE) docs/plate.png && echo "docs/plate.png shows $(PICTURE)"
 
 # ---- the C boundary with hostile arguments

@@ -10,8 +10,7 @@
 enum placement {
     BEFORE_A_GUARD, /* its last byte is the last one before such a page; without bytes it is null */
     BEHIND_A_GUARD, /* its first byte is the first one behind such a page; without bytes it is in one */
-    ALLOCATED,      /* it is an allocation of its own, at any address, for valgrind to watch */
-    PLACEMENTS
+    ALLOCATED       /* it is an allocation of its own, at any address, for valgrind to watch */
 };
 
 /* Lends all buffers of a case. The planes before and behind guards are memory that can only be read. */

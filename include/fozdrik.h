@@ -180,7 +180,8 @@ uint32_t fozdrik_reconstruct_motion_vector(
 /*
  * The predictors after a macroblock whose vectors have been reconstructed: Tables 7-10 and 7-11.
  *
- * prediction_type is read where its presence is 1; an intra macroblock has none.
+ * prediction_type is read where its presence is 1; an intra macroblock has none. Any other needs one: where the
+ * stream has none, pass frame-based in a frame picture and field-based in a field picture.
  * predictors: as above. outcome: 1 byte, which takes a number of enum fozdrik_outcome.
  *
  * Refusals: 38; 7; 8; 9; 10; then 11 or 12. Nothing is changed by one.

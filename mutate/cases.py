@@ -34,6 +34,8 @@ def selection(cases, signature, each, most):
         seen[s] = seen.get(s, 0) + 1
         if seen[s] <= each:
             kept.append(case)
+    if not kept:
+        raise ValueError("a selection of a list's cases is empty: have its groups other letters now?")
     if len(kept) > most:
         kept = [kept[i * len(kept) // most] for i in range(most)]
     return kept
@@ -595,7 +597,8 @@ def macroblocks(repository):
         said = f"Refused {answer}" if answer else "Done"
         m.case(f"predictionAnswer ({refusal}) ≡ {said}", f"predictionNumber ({said}) ≡ {answer}")
     several = selection([x for x in calls.calls if x[0] == "u"], lambda x: tuple(x[1][1:14]) + tuple(tail(x[1])[1:3]), 1, 150)
-    for group, c, f, b in several + [x for x in calls.calls if x[0] == "v"]:
+    several += selection([x for x in calls.calls if x[0] == "v"], lambda x: 0, len(calls.calls), len(calls.calls))
+    for group, c, f, b in several:
         refusal, _, _, _, _, rest = call(c, f or no_planes, b or no_planes, numbers(f or no_planes), numbers(b or no_planes))
         m.case(f"{refusal} ≡ {rest[2]}")
     # and samples, some of each macroblock
@@ -687,7 +690,7 @@ use Rattle.combine_predictions.specs.Refusals.{orElse, unlessRefused}
 use Rattle.forming_predictions.specs.declared.FieldParity.the-variants as FieldParity
 use Rattle.pmv.specs.declared.predictors.PredictorPair.{PredictorPair}
 use Rattle.pmv.specs.Kinds as Kinds
-use Rattle.fozdrik.specs.Layout.{numberOf, wordOf, bytesOf, numberAt, predictorsOf, numbersBytes, predictorBytes, pairBytes, withPair}
+use Rattle.fozdrik.specs.Layout.{signedOf, wordOf, bytesOf, numberAt, predictorsOf, numbersBytes, predictorBytes, pairBytes, withPair}
 use Rattle.fozdrik.specs.Entries.{unknownRefusal, isYes, vectorKnown, updateKnown, residualOf, typeOf, indexOf, directionOf, formatOf, structureOf, motionVectorOf, vectorFrom, vectorBytes, contextOf, frameKnown, fieldKnown, referenceKnown, fieldsKnown, geometryOf, referenceOf, frameDirectionOf, fieldVectorOf, fieldDirectionOf, frameMotionOf, fieldMotionOf}
 use Rattle.inter_reconstruction.specs.declared.frames.ReferenceFrame.the-variants as Reference
 use Rattle.inter_reconstruction.specs.declared.motion.FrameDirection.the-variants as Frame
@@ -704,7 +707,7 @@ use Rattle.inter_reconstruction.specs.declared.motion.FieldDirection.the-varian
         short = KINDS[name][1]
         for value, c_value in zip(KINDS[name][0], values):
             n = numbers[c_name][c_value]
-            equations = [f"Kinds.{short}Number {name}.{value} ≡ {n}"]
+            equations = [] if name == "FieldParity" else [f"Kinds.{short}Number {name}.{value} ≡ {n}"]
             if name != "Component":
                 some = f"(Option{name}.Some {name}.{value})"
                 equations += [f"Kinds.{short}From {n} ≡ {some}", f"Kinds.{short}Known {some} ≡ true", f"Kinds.{short}Or {some} ≡ {name}.{value}"]
@@ -716,7 +719,6 @@ use Rattle.inter_reconstruction.specs.declared.motion.FieldDirection.the-varian
     for n, value in ((numbers["flag"]["NO"], "false"), (numbers["flag"]["YES"], "true")):
         some = f"(OptionFlag.Some {value})"
         m.case(
-            f"Kinds.flagNumber {value} ≡ {n}",
             f"Kinds.flagFrom {n} ≡ {some}",
             f"Kinds.flagKnown {some} ≡ true",
             f"Kinds.flagOr {some} ≡ {value}",
@@ -734,7 +736,7 @@ use Rattle.inter_reconstruction.specs.declared.motion.FieldDirection.the-varian
         unsigned = struct.unpack("<I", bytes(word(v)))[0]
         m.case(
             f"wordOf {z(v)} ≡ {unsigned}",
-            f"numberOf {unsigned} ≡ {z(v)}",
+            f"signedOf {unsigned} ≡ {z(v)}",
             f"bytesOf {z(v)} ≡ {lst(word(v))}",
             f"numberAt {lst([9] + word(v) + [9])} 1 ≡ {z(v)}",
         )

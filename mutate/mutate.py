@@ -2,6 +2,7 @@
 """Small mutations of the code and of the definitions, and what notices them. See README.md."""
 
 import argparse
+import hashlib
 import itertools
 import multiprocessing
 import os
@@ -94,12 +95,13 @@ def all_mutants():
     return found
 
 
-def some_of(mutants):
+def some_of(mutants, named):
+    """at most MOST of a kind in each function, and those that are named"""
     groups = {}
     for m in mutants:
         groups.setdefault((m.path, m.edit.function, m.edit.kind), []).append(m.key)
     kept = {g[i * len(g) // MOST] if len(g) > MOST else k for g in groups.values() for i, k in enumerate(g) if i < MOST}
-    return [m for m in mutants if m.key in kept]
+    return [m for m in mutants if m.key in kept or m.key in named]
 
 
 class CodeCourt:
@@ -163,7 +165,7 @@ class DefinitionCourt:
         status, said = judges.run([self.rt, "check", self.path(name), "--incremental", kept], CHECK_SECONDS)
         said = said.decode(errors="replace")
         if status is None:
-            return NOTICED, f"the cases {name}: not computed in {CHECK_SECONDS} seconds"
+            return NOTICED, f"the cases {name}: {judges.LATE}"
         if status == 0:
             return SURVIVED, ""
         errors = re.findall(rf"/{flat.CRATE}/(specs|proofs)/\S*: error: (.*)", said)
@@ -208,11 +210,28 @@ def read_survivors():
     return reasons
 
 
-def read_verdicts(path):
-    """the verdicts of a run before, but for those that failed"""
+def state():
+    """a digest of all that a verdict depends on"""
+    digest = hashlib.sha256()
+    for folder in ("crates", "fuzz", "include", "mutate"):
+        for where, inside, names in os.walk(os.path.join(REPOSITORY, folder)):
+            inside.sort()
+            for path in sorted(os.path.join(where, n) for n in names if not n.endswith((".pyc", "survivors.txt"))):
+                digest.update(os.path.relpath(path, REPOSITORY).encode())
+                with open(path, "rb") as f:
+                    digest.update(f.read())
+    return digest.hexdigest()
+
+
+def read_verdicts(path, now):
+    """the verdicts of a run before, but for those that failed; none, if something has changed since"""
     known = {}
     if os.path.exists(path):
-        for line in flat.read(path).split("\n"):
+        lines = flat.read(path).split("\n")
+        if lines[0] != now:
+            print("something has changed since the run that was stopped, and all is tried again")
+            return known
+        for line in lines[1:]:
             fields = line.split("\t")
             if len(fields) == 4 and fields[0] != "failed":
                 known[fields[2]] = (fields[0], fields[3])
@@ -268,7 +287,7 @@ def main():
     mutants = all_mutants()
     todo = [m for m in mutants if m.part in parts and (not named or m.crate in named) and o.only in m.key]
     if not (o.all or o.only or o.survivors):
-        todo = some_of(todo)
+        todo = some_of(todo, reasons)
     if o.survivors:
         todo = [m for m in todo if m.key in reasons]
     todo = todo[:: o.every]
@@ -278,15 +297,17 @@ def main():
         return 0
     rows = list(dict.fromkeys((m.part, m.crate) for m in todo))
     began, counts = time.monotonic(), {row: {} for row in rows}
-    survivors, failed, unexplained = set(), [], []
+    survivors, failed, unexplained, late = set(), [], [], 0
     os.makedirs(o.folder, exist_ok=True)
     path = os.path.join(o.folder, "verdicts.txt")
-    known = read_verdicts(path) if o.resume else {}
+    now = state()
+    known = read_verdicts(path, now) if o.resume else {}
     before = [(m, known[m.key]) for m in todo if m.key in known]
     left = [m for m in todo if m.key not in known]
     print(f"{len(todo)} mutants; verdicts go to {os.path.relpath(path)}", flush=True)
     rows_left = list(dict.fromkeys((m.part, m.crate) for m in left))
     with open(path, "w") as log, multiprocessing.Pool(o.jobs, open_courts, (o.folder, o.rt, rows_left)) as pool:
+        log.write(now + "\n")
         for n, (mutant, (verdict, why)) in enumerate(itertools.chain(before, pool.imap(try_one, left)), 1):
             count = counts[mutant.part, mutant.crate]
             count[verdict] = count.get(verdict, 0) + 1
@@ -294,6 +315,7 @@ def main():
             log.flush()
             if verdict == "failed":
                 failed.append((mutant, why))
+            late += verdict == NOTICED and why.endswith(judges.LATE)
             if verdict == SURVIVED:
                 survivors.add(mutant.key)
                 if mutant.key not in reasons:
@@ -311,18 +333,23 @@ def main():
         total = [a + b for a, b in zip(total, figures)]
         print("{:28}{:9}{:9}{:9}{:15}{:14}".format(f"{part} {crate}", *figures))
     print("{:28}{:9}{:9}{:9}{:15}{:14}".format("all", *total))
+    print(f"{late} were noticed because a program or a check did not end in its time")
     # an entry is out of date where its mutant is there no more, or was tried and noticed
-    keys, tried = {m.key for m in mutants}, {m.key for m in todo}
+    keys, tried, outdated = {m.key for m in mutants}, {m.key for m in todo}, 0
     for key in reasons:
         if key not in keys:
             print(f"survivors.txt has what is no mutant any more: {key}")
+            outdated += 1
         elif key in tried and key not in survivors:
             print(f"survivors.txt has what is noticed: {key}")
+            outdated += 1
     for mutant, why in failed[:10]:
         print(f"not judged: {mutant.key}: {why}")
-    if unexplained or failed:
-        print(f"{len(unexplained)} survive without a reason in survivors.txt; {len(failed)} were not judged")
-    return 1 if unexplained or failed else 0
+    if unexplained or failed or outdated:
+        print(f"{len(unexplained)} survive without a reason in survivors.txt; {len(failed)} were not judged; {outdated} entries are out of date")
+        return 1
+    print("every survivor has its reason in survivors.txt, and every reason its survivor")
+    return 0
 
 
 if __name__ == "__main__":

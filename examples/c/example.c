@@ -1,6 +1,6 @@
 /*
- * The four calls from C: vectors, updates of their predictors, and one field-coded macroblock from its codes to its
- * samples. It prints what it does; expected_example.txt is what it has to print. C99, and C++ too.
+ * The four calls from C: vectors, updates of their predictors, a frame-based macroblock, and a field-based one from its
+ * codes to its samples. It prints what it does; expected_example.txt is what it has to print. C99, and C++ too.
  */
 #include <stdio.h>
 #include <string.h>
@@ -154,7 +154,7 @@ static void updates(void)
     show_update("intra", &intra, &pmv);
 }
 
-/* ---- a macroblock */
+/* ---- macroblocks */
 
 enum { WIDTH = 32, HEIGHT = 32, CHROMA_WIDTH = WIDTH / 2, CHROMA_HEIGHT = HEIGHT / 2 };
 
@@ -229,7 +229,44 @@ static unsigned long sum_of(const uint8_t *samples, size_t count)
     return sum;
 }
 
-static void macroblock(void)
+static void frame_macroblock(void)
+{
+    static struct picture before;
+    static const struct fozdrik_geometry geometry = {WIDTH, HEIGHT, FOZDRIK_YUV420};
+    struct fozdrik_frame forward = frame_of(&before, &geometry);
+    struct fozdrik_frame_motion motion = {FOZDRIK_YES, {1, 1}, FOZDRIK_NO, {0, 0}};
+    uint8_t out[FOZDRIK_MACROBLOCK_420];
+    uint32_t refusal;
+
+    fill_picture(&before, 0);
+    printf("a frame-based macroblock from a picture of 32 x 32, 4:2:0; column 0, row 1\n");
+
+    /* Half a sample to the right and half a row down: each sample is a mean of four, two from either field. */
+    refusal = fozdrik_predict_frame_based(&geometry, 0, 1, &forward, NULL, &motion, out, sizeof out);
+    printf("  by (1, 1): ");
+    print_answer(refusal);
+    printf("\n");
+    print_row("row 0", out, 16);
+    print_row("row 1", out + 16, 16);
+    print_row("Cb, row 0", out + 256, 8);
+
+    motion.forward_present = FOZDRIK_NO; /* the forward picture by the zero vector */
+    refusal = fozdrik_predict_frame_based(&geometry, 0, 1, &forward, NULL, &motion, out, sizeof out);
+    printf("  without motion: ");
+    print_answer(refusal);
+    printf("\n");
+    print_row("row 0", out, 16);
+    print_row("row 1", out + 16, 16);
+
+    refusal = fozdrik_predict_frame_based(&geometry, 1024, 1, &forward, NULL, &motion, out, sizeof out);
+    printf("  in column 1024: ");
+    print_answer(refusal);
+    printf("; an output of 383 bytes: ");
+    print_answer(fozdrik_predict_frame_based(&geometry, 0, 1, &forward, NULL, &motion, out, sizeof out - 1));
+    printf("\n");
+}
+
+static void field_macroblock(void)
 {
     static struct picture before, after;
     static const struct fozdrik_geometry geometry = {WIDTH, HEIGHT, FOZDRIK_YUV420};
@@ -269,7 +306,7 @@ static void macroblock(void)
         printf("\n");
         return;
     }
-    printf("a field-coded macroblock from two pictures of 32 x 32, 4:2:0; column 1, row 0\n");
+    printf("a field-based macroblock from two pictures of 32 x 32, 4:2:0; column 1, row 0\n");
     printf("  its four vectors leave outcome %u", (unsigned)outcome);
     print_predictors(&pmv);
 
@@ -306,6 +343,7 @@ int main(void)
 {
     vectors();
     updates();
-    macroblock();
+    frame_macroblock();
+    field_macroblock();
     return 0;
 }

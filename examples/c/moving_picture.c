@@ -233,7 +233,7 @@ static void draw(struct picture *picture, int number)
  *
  * The library has four functions for C, and placing is none of them: where the bytes of a macroblock go is the caller's
  * business. In Rattle it is place_macroblock of inter_reconstruction (docs/PROOFS.md). This is the same in plain C,
- * which nothing proves: for any of the three formats, with the same refusals in the same order.
+ * which nothing proves: for any of the three formats, with the same refusals in the same order, after 38 for another.
  */
 
 enum { LARGEST_SIDE = 16384, ILL_FORMED = 20 };

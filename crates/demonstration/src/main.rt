@@ -1,4 +1,4 @@
-//! Shows what is built so far: vectors from the differences of a stream, and their predictors; blocks predicted from a small plane, of its
+//! Shows the three lower layers: vectors from the differences of a stream, and their predictors; blocks predicted from a small plane, of its
 //! frame and of a field; the mean of two predictions and a choice of one; and refusals.
 use combine_predictions::Averaged;
 use combine_predictions::PredictionDirection;

@@ -3,7 +3,7 @@
 -- Assumes nothing.
 use mathlib.Core.Bool.{Bool, true, false}
 use mathlib.Core.List.{List}
-use Prim.Native.Nat.{ℕ, _+_, _*_, _/_, _%_}
+use Prim.Native.Nat.{ℕ, _*_, _/_, _%_}
 use lib.IntN.{ℤ, pos, _+ℤ_}
 use Rattle.laws.proofs.Related.{Related, related-tab, related-append, related-take, related-drop}
 use Rattle.forming_predictions.specs.Splitting.{floorHalf, halfFlag}
@@ -13,7 +13,7 @@ use Rattle.forming_predictions.specs.Forming.{combined, formed}
 use Rattle.pmv.specs.declared.kinds.ChromaFormat.{ChromaFormat}
 use Rattle.inter_reconstruction.specs.Components.{ColourComponent, luma, cb, cr, blockWidth, blockHeight, blockBytes}
 use Rattle.inter_reconstruction.specs.Motion.{fieldVectorOf, usesOf}
-use Rattle.inter_reconstruction.specs.Frames.{Samples, Reading, planeOf}
+use Rattle.inter_reconstruction.specs.Frames.{Samples, PlaneReading, planeOf}
 use Rattle.inter_reconstruction.specs.Macroblock.{fieldSample, directionSample, usedSample, rectangle, part, macroblock, predicted}
 use Rattle.inter_reconstruction.specs.Placing.{placeIn, partFirst, placed}
 use Rattle.inter_reconstruction.specs.declared.frames.FrameBuffer.{FrameBuffer}
@@ -33,7 +33,7 @@ pub record Keeps (a b : Means) (R S P : ℕ → ℕ → Type 0) : Type 0 where
   pub join : {x y x′ y′ : ℕ} → S x y → S x′ y′ → P (a .join x x′) (b .join y y′)
 
 -- two readings that are related at every coordinate
-abbrev pub Alike : (ℕ → ℕ → Type 0) → Reading → Reading → Type 0
+abbrev pub Alike : (ℕ → ℕ → Type 0) → PlaneReading → PlaneReading → Type 0
 Alike R r s = (l : Lines) (x y : ℤ) → R (r l x y) (s l x y)
 
 module _ (a b : Means) (R S P : ℕ → ℕ → Type 0) (K : Keeps a b R S P) where
@@ -48,25 +48,25 @@ module _ (a b : Means) (R S P : ℕ → ℕ → Type 0) (K : Keeps a b R S P) wh
   unfolding formed
   formed-alike r s e x y h v = combined-alike r s e (x +ℤ floorHalf h) (y +ℤ floorHalf v) (halfFlag h) (halfFlag v)
 
-  field-alike : (r s : Reading) → Alike R r s → (u : FieldVector) (x line : ℕ) → S (fieldSample a r u x line) (fieldSample b s u x line)
+  field-alike : (r s : PlaneReading) → Alike R r s → (u : FieldVector) (x line : ℕ) → S (fieldSample a r u x line) (fieldSample b s u x line)
   unfolding fieldSample
   field-alike r s e u x line =
       let l = field (u .«reference_field») in
       formed-alike (r l) (s l) (e l) (pos x) (pos line) (u .vector .horizontal) (u .vector .vertical)
 
-  direction-alike : (r s : Reading) → Alike R r s → (d : DirectionMotion) (x y : ℕ) → S (directionSample a r d x y) (directionSample b s d x y)
+  direction-alike : (r s : PlaneReading) → Alike R r s → (d : DirectionMotion) (x y : ℕ) → S (directionSample a r d x y) (directionSample b s d x y)
   unfolding directionSample
   direction-alike r s e (Frame v) x y = formed-alike (r frame) (s frame) (e frame) (pos x) (pos y) (v .horizontal) (v .vertical)
   direction-alike r s e (Field p) x y = field-alike r s e (fieldVectorOf p (y % 2)) x (y / 2)
 
-  used-alike : (r s r′ s′ : Reading) → Alike R r s → Alike R r′ s′ → (u : Uses) (x y : ℕ) → P (usedSample a r r′ u x y) (usedSample b s s′ u x y)
+  used-alike : (r s r′ s′ : PlaneReading) → Alike R r s → Alike R r′ s′ → (u : Uses) (x y : ℕ) → P (usedSample a r r′ u x y) (usedSample b s s′ u x y)
   unfolding usedSample
   used-alike r s r′ s′ e f (Forward d) x y = K .single (direction-alike r s e d x y)
   used-alike r s r′ s′ e f (Backward d) x y = K .single (direction-alike r′ s′ f d x y)
   used-alike r s r′ s′ e f (Both c d) x y = K .join (direction-alike r s e c x y) (direction-alike r′ s′ f d x y)
 
   -- a macroblock's prediction
-  module _ (z : P 0 0) (f : ChromaFormat) (r s r′ s′ : ColourComponent → Reading) (e : (c : ColourComponent) → Alike R (r c) (s c)) (e′ : (c : ColourComponent) → Alike R (r′ c) (s′ c)) (u : Uses) (col row : ℕ) where
+  module _ (z : P 0 0) (f : ChromaFormat) (r s r′ s′ : ColourComponent → PlaneReading) (e : (c : ColourComponent) → Alike R (r c) (s c)) (e′ : (c : ColourComponent) → Alike R (r′ c) (s′ c)) (u : Uses) (col row : ℕ) where
     part-alike : (c : ColourComponent)
         → Related P (part f c (usedSample a (r c) (r′ c) (usesOf f u c)) col row) (part f c (usedSample b (s c) (s′ c) (usesOf f u c)) col row)
     unfolding rectangle

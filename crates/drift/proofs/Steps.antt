@@ -11,7 +11,7 @@ use Rattle.combine_predictions.specs.Refusals.{orElse, unlessRefused}
 use Rattle.forming_predictions.specs.Means.{Means, rounded}
 use Rattle.pmv.specs.declared.kinds.ChromaFormat.{ChromaFormat}
 use Rattle.inter_reconstruction.specs.Components.{ColourComponent, macroblockBytes}
-use Rattle.inter_reconstruction.specs.Frames.{lengthsOf, Reading}
+use Rattle.inter_reconstruction.specs.Frames.{lengthsOf, PlaneReading}
 use Rattle.inter_reconstruction.specs.Macroblock.{macroblock, predicted}
 use Rattle.inter_reconstruction.specs.Refusals.{planesRefusal, referencesRefusal, predictionRefusal}
 use Rattle.inter_reconstruction.specs.Placing.{placingRefusal}
@@ -25,7 +25,7 @@ use Rattle.drift.specs.Unrounded.{fittingLengths, tableRefusal}
 use Rattle.drift.specs.Drift.{Fitting, Lower, InRange}
 
 -- a macroblock's length, in any arithmetic
-pub predicted-length : (m : Means) (f : ChromaFormat) (r s : ColourComponent → Reading) (u : Uses) (col row : ℕ)
+pub predicted-length : (m : Means) (f : ChromaFormat) (r s : ColourComponent → PlaneReading) (u : Uses) (col row : ℕ)
     → length (predicted m f r s u col row) ≡ macroblockBytes f
 unfolding macroblock
 predicted-length m f r s u col row = simp (length-append, rectangle-length)

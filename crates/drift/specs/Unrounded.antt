@@ -10,7 +10,7 @@ use Rattle.combine_predictions.specs.Refusals.{orElse, unlessRefused}
 use Rattle.forming_predictions.specs.Lines.{Lines}
 use Rattle.forming_predictions.specs.Means.{Means}
 use Rattle.inter_reconstruction.specs.Components.{ColourComponent, macroblockBytes}
-use Rattle.inter_reconstruction.specs.Frames.{Samples, Reading, planeOf, readFrame}
+use Rattle.inter_reconstruction.specs.Frames.{Samples, PlaneReading, planeOf, readFrame}
 use Rattle.inter_reconstruction.specs.Macroblock.{predicted}
 use Rattle.inter_reconstruction.specs.Refusals.{predictionRefusal}
 use Rattle.inter_reconstruction.specs.Placing.{placed, placingRefusal}
@@ -46,7 +46,7 @@ tableRefusal g s =
 
 -- what is read for picture n: where prediction reads, but out of the reference's unrounded picture, and with j its number, times 8 to the
 -- power n - 1 - j. Of a reference that is absent nothing is ever read.
-abbrev pub unroundedReading : FrameGeometry → ℕ → Pictures → Option ℕ → ColourComponent → Reading
+abbrev pub unroundedReading : FrameGeometry → ℕ → Pictures → Option ℕ → ColourComponent → PlaneReading
 unroundedReading g n pictures none c = λ (l : Lines) (x y : ℤ). 0
 unroundedReading g n pictures (some j) c = λ (l : Lines) (x y : ℤ). 8 ^ (n - 1 - j) * readFrame (fitting g) (pictures j) c l x y
 

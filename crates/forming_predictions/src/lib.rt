@@ -16,7 +16,7 @@ ghost use Rattle.forming_predictions.specs.declared.FieldParity.the-vari
 ghost use Rattle.forming_predictions.specs.Splitting.{floorHalf, halfFlag, IsSplit, horizontalHalf, verticalHalf};
 ghost use Rattle.forming_predictions.specs.Lines.{frame, field, fieldLines, clampTo, sampleAt};
 ghost use Rattle.forming_predictions.specs.Means.{mean4, rounded};
-ghost use Rattle.forming_predictions.specs.Forming.{formed, blockOf, predictedBlock};
+ghost use Rattle.forming_predictions.specs.Forming.{formed, predictedBlock};
 ghost use Rattle.forming_predictions.specs.Refusals.{outsideDomain, planeFits, positionFits, blockSideFits, planeRefusal, sampleRefusal, blockRefusal};
 ghost use Rattle.forming_predictions.specs.SampleAnswers.{sampleNumber, sampleValue, valueUnless, sampleAnswer};
 ghost use Rattle.forming_predictions.specs.BlockAnswers.{blockNumber, blockAnswer};
@@ -454,7 +454,7 @@ fn sixteen_of_pairs(
     }
 }
 
-/// Eight means of four samples, likewise.
+/// Eight means of four samples, by their sums, through a local array as in `two_eight`.
 fn four_eight(row: &[u8], below: &[u8], x: usize, dx: usize, out: &mut [u8])
     requires { ⌜ RowFits (now row) (now below) x dx 8 × (length (now out) ≡ 8) ⌝ }
     ensures { λ r. ⌜ now (out .exit) ≡ tabulate 8 (fourOf (now (row .entry)) (now (below .entry)) x dx) ⌝ }
@@ -1376,8 +1376,8 @@ fn form_rows(
 // ---- refusals
 
 /// Whether a plane with so many samples is in the domain.
-pub fn plane_fits(plane: ReferencePlane, length: usize) -> bool
-    ensures { λ r. ⌜ r ≡ planeFits (plane .width) (plane .height) length ⌝ }
+pub fn plane_fits(plane: ReferencePlane, count: usize) -> bool
+    ensures { λ r. ⌜ r ≡ planeFits (plane .width) (plane .height) count ⌝ }
 {
     if plane.width > LARGEST_SIDE {
         return false;
@@ -1385,7 +1385,7 @@ pub fn plane_fits(plane: ReferencePlane, length: usize) -> bool
     if plane.height > LARGEST_SIDE {
         return false;
     }
-    length == plane.width * plane.height
+    count == plane.width * plane.height
 }
 
 /// `&` and not `&&`: both tests are made, and there is one path.
@@ -1411,33 +1411,33 @@ fn domain_refusal(fits: bool) -> u8
     OUTSIDE_DOMAIN
 }
 
-fn plane_refusal(plane: ReferencePlane, length: usize) -> u8
-    ensures { λ r. ⌜ r ≡ planeRefusal (plane .width) (plane .height) length ⌝ }
+fn plane_refusal(plane: ReferencePlane, count: usize) -> u8
+    ensures { λ r. ⌜ r ≡ planeRefusal (plane .width) (plane .height) count ⌝ }
 {
-    domain_refusal(plane_fits(plane, length))
+    domain_refusal(plane_fits(plane, count))
 }
 
-fn sample_refusal(plane: ReferencePlane, length: usize, x: i32, y: i32) -> u8
-    ensures { λ r. ⌜ r ≡ sampleRefusal (plane .width) (plane .height) length x y ⌝ }
+fn sample_refusal(plane: ReferencePlane, count: usize, x: i32, y: i32) -> u8
+    ensures { λ r. ⌜ r ≡ sampleRefusal (plane .width) (plane .height) count x y ⌝ }
 {
     domain_refusal(
-        plane_fits(plane, length) & (position_fits(LAST_SAMPLE, x) & position_fits(LAST_SAMPLE, y)),
+        plane_fits(plane, count) & (position_fits(LAST_SAMPLE, x) & position_fits(LAST_SAMPLE, y)),
     )
 }
 
 fn block_refusal(
     plane: ReferencePlane,
-    length: usize,
+    count: usize,
     x: i32,
     y: i32,
     size: BlockSize,
     room: usize,
 ) -> u8
-    ensures { λ r. ⌜ r ≡ blockRefusal (plane .width) (plane .height) length x y (size .width) (size .height) room ⌝ }
+    ensures { λ r. ⌜ r ≡ blockRefusal (plane .width) (plane .height) count x y (size .width) (size .height) room ⌝ }
 {
     let sides = block_side_fits(size.width) & block_side_fits(size.height);
     let positions = position_fits(LAST_BLOCK, x) & position_fits(LAST_BLOCK, y);
-    let domain = domain_refusal(plane_fits(plane, length) & (sides & positions));
+    let domain = domain_refusal(plane_fits(plane, count) & (sides & positions));
     if domain != 0 {
         return domain;
     }

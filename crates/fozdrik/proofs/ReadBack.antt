@@ -13,15 +13,15 @@ use Rattle.laws.specs.All.{All}
 use Rattle.laws.specs.Tabulate.{tabulate}
 use Rattle.laws.proofs.Tabulated.{tab-self}
 use Rattle.pmv.specs.declared.predictors.Pmv.{Pmv}
-use Rattle.fozdrik.specs.Layout.{wordOf, numberOf, bytesOf, wordAt, numberAt, predictorsOf, numbersBytes, predictorBytes}
+use Rattle.fozdrik.specs.Layout.{wordOf, signedOf, bytesOf, wordAt, numberAt, predictorsOf, numbersBytes, predictorBytes}
 use Rattle.fozdrik.proofs.Words.{Eight, eight, eight-of, word-is, word-fits, word-back, number-back}
 
 -- ---- numbers, by way of bytes
 
 -- a number out of its four bytes
-number-read : (z : ℤ) → SFits w32 z → numberOf (wordAt (bytesOf z) 0) ≡ z
+number-read : (z : ℤ) → SFits w32 z → signedOf (wordAt (bytesOf z) 0) ≡ z
 unfolding bytesOf
-number-read z f = ap numberOf (word-back (wordOf z) (word-fits z f)) ∙ number-back z f
+number-read z f = ap signedOf (word-back (wordOf z) (word-fits z f)) ∙ number-back z f
 
 numbers-back : {l : List ℤ} → Eight l → All (SFits w32) l → predictorsOf (numbersBytes l) .values ≡ l
 unfolding predictorsOf numberAt numbersBytes bytesOf
@@ -62,10 +62,10 @@ module _ (n a b c d : ℕ) (ha : a < 256) (hb : b < 256) (hc : c < 256) (hd : d 
   fourth = omega arith
 
   -- and of its number
-  bytes-read : bytesOf (numberOf n) ≡ a ∷ b ∷ c ∷ d ∷ []
+  bytes-read : bytesOf (signedOf n) ≡ a ∷ b ∷ c ∷ d ∷ []
   unfolding bytesOf
   bytes-read =
-      let w : wordOf (numberOf n) ≡ n = sym (word-is (numberOf n)) ∙ ofZ-toZ {w = w32} (record { fits = omega arith }) in
+      let w : wordOf (signedOf n) ≡ n = sym (word-is (signedOf n)) ∙ ofZ-toZ {w = w32} (record { fits = omega arith }) in
       rw w (λ i. first i ∷ second i ∷ third i ∷ fourth i ∷ [])
 
 -- 32 bytes are read and written back
@@ -75,7 +75,7 @@ bytes-read-back l n b =
     (λ i. at 0 i ++ (at 4 i ++ (at 8 i ++ (at 12 i ++ (at 16 i ++ (at 20 i ++ (at 24 i ++ (at 28 i ++ []))))))))
     ∙ (sym (ap (λ (k : ℕ). tabulate k (λ (i : ℕ). getD l i 0)) n) ∙ tab-self l)
   where
-    at : (k : ℕ) → bytesOf (numberOf (wordAt l k)) ≡ getD l k 0 ∷ getD l (k + 1) 0 ∷ getD l (k + 2) 0 ∷ getD l (k + 3) 0 ∷ []
+    at : (k : ℕ) → bytesOf (signedOf (wordAt l k)) ≡ getD l k 0 ∷ getD l (k + 1) 0 ∷ getD l (k + 2) 0 ∷ getD l (k + 3) 0 ∷ []
     at k = bytes-read (wordAt l k) (getD l k 0) (getD l (k + 1) 0) (getD l (k + 2) 0) (getD l (k + 3) 0) (b k) (b (k + 1)) (b (k + 2)) (b (k + 3)) refl
 
 pub bytes-back : (l : List ℕ) → length l ≡ 32 → All (λ (b : ℕ). b < 256) l → predictorBytes (predictorsOf l) ≡ l

@@ -18,7 +18,7 @@ use mir.Facts.{toZ-ofZ, fits-ofZ, fits-natAbs}
 use borrow.Author.Tests.{le-ltb}
 use borrow.Rule.Slice.PartMut.{putMid}
 use Rattle.laws.proofs.Signed.{eq-z, add-z, sub-z, lt-yes, lt-no, sfits-z, sfits-lo}
-use Rattle.fozdrik.specs.Layout.{wordOf, numberOf, bytesOf, numberAt, predictorsOf, pairBytes, numbersBytes}
+use Rattle.fozdrik.specs.Layout.{wordOf, signedOf, bytesOf, numberAt, predictorsOf, pairBytes, numbersBytes}
 use Rattle.pmv.specs.Predictors.{pmvIndex, pairOf}
 use Rattle.pmv.specs.declared.kinds.Component.the-variants.{Horizontal}
 use Rattle.pmv.specs.declared.kinds.VectorIndex.{VectorIndex}
@@ -31,7 +31,7 @@ use Rattle.pmv.specs.declared.predictors.PredictorPair.{PredictorPair}
 
 -- a word from 2 ^ 31 on
 module _ (x : ℕ) (h : 2147483648 ≤ x) (k : x < 4294967296) where
-  pub high : numberOf x ≡ pos x -ℤ pos 4294967296
+  pub high : signedOf x ≡ pos x -ℤ pos 4294967296
   high =
       let e : ltb x 2147483648 ≡ false = le-ltb x 2147483648 h in
       rw e (eq-z (negsuc (4294967296 - suc x)) (pos x -ℤ pos 4294967296) (omega (arith, sub-z (pos x) (pos 4294967296))))
@@ -72,7 +72,7 @@ word-is (negsuc n) = refl
 pub word-fits : (z : ℤ) → SFits w32 z → wordOf z < 4294967296
 word-fits z f = rw (← word-is z) (fits-ofZ f .fits)
 
-pub number-back : (z : ℤ) → SFits w32 z → numberOf (wordOf z) ≡ z
+pub number-back : (z : ℤ) → SFits w32 z → signedOf (wordOf z) ≡ z
 number-back z f = rw (← word-is z) (toZ-ofZ f)
 
 -- ---- bytes

@@ -22,8 +22,8 @@ wordOf (pos n) = n
 wordOf (negsuc n) = 4294967296 - suc n
 
 -- and back
-abbrev pub numberOf : ℕ → ℤ
-numberOf n = cond (ltb n 2147483648) (pos n) (negsuc (4294967296 - suc n))
+abbrev pub signedOf : ℕ → ℤ
+signedOf n = cond (ltb n 2147483648) (pos n) (negsuc (4294967296 - suc n))
 
 -- four bytes, the lowest first
 abbrev pub wordBytes : ℕ → List ℕ
@@ -37,7 +37,7 @@ abbrev pub wordAt : List ℕ → ℕ → ℕ
 wordAt l k = getD l k 0 + getD l (k + 1) 0 * 256 + getD l (k + 2) 0 * 65536 + getD l (k + 3) 0 * 16777216
 
 unfoldable pub numberAt : List ℕ → ℕ → ℤ
-numberAt l k = numberOf (wordAt l k)
+numberAt l k = signedOf (wordAt l k)
 
 -- ---- the predictors: eight numbers, 32 bytes
 

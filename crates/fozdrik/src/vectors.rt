@@ -28,7 +28,7 @@ ghost use Rattle.combine_predictions.specs.Refusals.{orElse, unlessRefused};
 ghost use Rattle.pmv.specs.Predictors.{pairOf};
 ghost use Rattle.pmv.specs.Update.{updateRefusal, updateOutcome, outcomeNumber, updated};
 ghost use Rattle.pmv.specs.Answers.{vectorNumber, updateNumber};
-ghost use Rattle.fozdrik.specs.Layout.{wordOf, numberOf, bytesOf, numberAt, pairBytes, predictorsOf, predictorBytes, withPair};
+ghost use Rattle.fozdrik.specs.Layout.{wordOf, signedOf, bytesOf, numberAt, pairBytes, predictorsOf, predictorBytes, withPair};
 ghost use Rattle.fozdrik.specs.Entries.{unknownRefusal, residualOf, typeOf, vectorKnown, updateKnown, indexOf, directionOf, formatOf, structureOf, motionVectorOf, contextOf, vectorFrom, vectorBytes};
 ghost use Rattle.fozdrik.specs.inner.Outcomes.{outcomeByte};
 
@@ -36,7 +36,7 @@ ghost use Rattle.fozdrik.specs.inner.Outcomes.{outcomeByte};
 
 /// The number of a word. The compiler makes nothing of the test and of the sum.
 fn signed(x: u32) -> i32
-    ensures { λ r. ⌜ r ≡ numberOf x ⌝ }
+    ensures { λ r. ⌜ r ≡ signedOf x ⌝ }
 {
     if x < 2147483648 {
         return x as i32;

@@ -2,7 +2,7 @@
 -- Assumes nothing.
 use mathlib.Core.Path.{_≡_, refl, sym, _∙_}
 use mathlib.Core.List.{List, _++_}
-use Prim.Native.Nat.{ℕ, zero, suc, _+_, _-_, _*_, _%_, _≤_}
+use Prim.Native.Nat.{ℕ, zero, suc, _+_, _*_, _%_, _≤_}
 use native.Mathlib.Nat.{mul-le-mul, zero-mul, suc-mul}
 use native.Mathlib.Omega.{arith}
 use lib.ListN.{length}
@@ -13,7 +13,7 @@ use Rattle.inter_reconstruction.specs.declared.motion.DirectionMotion.{D
 use Rattle.inter_reconstruction.specs.declared.motion.Uses.{Uses}
 use Rattle.inter_reconstruction.specs.Components.{ColourComponent, luma, cb, cr, blockWidth, blockHeight, blockBytes, macroblockBytes}
 use Rattle.inter_reconstruction.specs.Motion.{chromaMotion, chromaUses}
-use Rattle.inter_reconstruction.specs.Frames.{Reading}
+use Rattle.inter_reconstruction.specs.Frames.{PlaneReading}
 use Rattle.inter_reconstruction.specs.Macroblock.{directionSample, usedSample, rectangle, part, macroblock, predicted}
 use Rattle.inter_reconstruction.specs.inner.Blocks.{BlockAt, FieldRows, HalvesAt, ChromaSides}
 use Rattle.inter_reconstruction.specs.inner.Planes.{CellFits, BlocksFit, chromaBlocks}
@@ -53,11 +53,11 @@ pub luma-rows : (row : ℕ) → FieldRows (row * 16) 16
 luma-rows row = record { first = omega arith; even = refl }
 
 -- ---- the chrominance
-pub chroma-length : (fb fr bb br : Reading) (u : Uses) (w h x y : ℕ) → length (chromaBlocks fb fr bb br u w h x y) ≡ w * h + w * h
+pub chroma-length : (fb fr bb br : PlaneReading) (u : Uses) (w h x y : ℕ) → length (chromaBlocks fb fr bb br u w h x y) ≡ w * h + w * h
 unfolding chromaBlocks
 chroma-length fb fr bb br u w h x y =
-    let block : Reading → Reading → List ℕ = λ f b. rectangle w h (usedSample rounded f b u) x y in
-    let n : (f b : Reading) → length (block f b) ≡ w * h = λ f b. rectangle-length w h (usedSample rounded f b u) x y in
+    let block : PlaneReading → PlaneReading → List ℕ = λ f b. rectangle w h (usedSample rounded f b u) x y in
+    let n : (f b : PlaneReading) → length (block f b) ≡ w * h = λ f b. rectangle-length w h (usedSample rounded f b u) x y in
     append-count (block fb bb) (block fr br) (w * h) (w * h) _ (n fb bb) (n fr br) refl
 
 module _ (f : ChromaFormat) (w h : ℕ) (ew : w ≡ blockWidth f cb) (eh : h ≡ blockHeight f cb) where
@@ -100,13 +100,13 @@ module _ (f : ChromaFormat) (w h : ℕ) (ew : w ≡ blockWidth f cb) (eh : h ≡
     chroma-at m e = record { one = chroma-block (w * h) chroma-bytes; count = omega (arith, chroma-total) }
 
   -- ---- the bytes
-  pub chroma-part : (read : Reading) (d v : DirectionMotion) (col row : ℕ) (o : List ℕ)
+  pub chroma-part : (read : PlaneReading) (d v : DirectionMotion) (col row : ℕ) (o : List ℕ)
       → v ≡ chromaMotion f d
       → o ≡ rectangle w h (directionSample rounded read v) (col * w) (row * h)
       → o ≡ part f cb (directionSample rounded read (chromaMotion f d)) col row
   chroma-part read d v col row o ev eo = eo ∙ rw (ew, eh, ev)
 
-  pub parts-are : (forward backward : ColourComponent → Reading) (u v : Uses) (col row : ℕ) (a b : List ℕ)
+  pub parts-are : (forward backward : ColourComponent → PlaneReading) (u v : Uses) (col row : ℕ) (a b : List ℕ)
       → v ≡ chromaUses f u
       → a ≡ rectangle 16 16 (usedSample rounded (forward luma) (backward luma) u) (col * 16) (row * 16)
       → b ≡ chromaBlocks (forward cb) (forward cr) (backward cb) (backward cr) v w h (col * w) (row * h)

@@ -25,7 +25,7 @@ use Rattle.inter_reconstruction.specs.declared.motion.Uses.the-variants.
 use Rattle.inter_reconstruction.specs.declared.macroblock.MacroblockPrediction.{MacroblockPrediction}
 use Rattle.inter_reconstruction.specs.declared.macroblock.MacroblockPrediction.the-variants.{Refused}
 use Rattle.inter_reconstruction.specs.Components.{ColourComponent, luma, cb, cr, blockWidth, blockHeight, macroblockBytes}
-use Rattle.inter_reconstruction.specs.Frames.{Samples, lengthsOf, planeOf, Reading}
+use Rattle.inter_reconstruction.specs.Frames.{Samples, lengthsOf, planeOf, PlaneReading}
 use Rattle.inter_reconstruction.specs.Macroblock.{usedSample, rectangle, macroblock, predicted}
 use Rattle.inter_reconstruction.specs.Refusals.{cellTooFar, tooFar, cellRefusal, planesFit, oneRefusal, referencesRefusal, predictionRefusal}
 use Rattle.inter_reconstruction.specs.Answers.{predictionNumber, predictionAnswer}
@@ -113,7 +113,7 @@ module _ (dest : FrameGeometry) (n col row : ℕ) where
         kept zero new old h = absurd (h refl)
         kept (suc r) new old h = refl
 
-    pub answered : (forward backward : ColourComponent → Reading) (uses u : Uses) (r : ℕ) (answer : MacroblockPrediction) (o old : List ℕ)
+    pub answered : (forward backward : ColourComponent → PlaneReading) (uses u : Uses) (r : ℕ) (answer : MacroblockPrediction) (o old : List ℕ)
         → destinationRefusal dest n col row ≡ 0
         → uses ≡ u
         → answer ≡ predictionAnswer r
@@ -139,7 +139,7 @@ absent-kept PredictionDirection.Backward r new old e = rw e
 absent-kept PredictionDirection.Skipped r new old e = rw e
 
 -- a direction that is not used is not read
-module _ (f : ChromaFormat) (forward backward : ColourComponent → Reading) (d : DirectionMotion) (col row : ℕ) where
+module _ (f : ChromaFormat) (forward backward : ColourComponent → PlaneReading) (d : DirectionMotion) (col row : ℕ) where
   pub forward-alone : directed f forward d col row ≡ predicted rounded f forward backward (Forward d) col row
   unfolding macroblock rectangle usedSample
   forward-alone = refl

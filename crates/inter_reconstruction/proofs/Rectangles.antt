@@ -34,7 +34,7 @@ use Rattle.inter_reconstruction.specs.declared.motion.FieldVector.{Field
 use Rattle.inter_reconstruction.specs.declared.motion.DirectionMotion.the-variants.{Frame, Field}
 use Rattle.inter_reconstruction.specs.declared.motion.FieldVectorPair.{FieldVectorPair}
 use Rattle.inter_reconstruction.specs.Motion.{fieldVectorOf}
-use Rattle.inter_reconstruction.specs.Frames.{Reading, readPlane}
+use Rattle.inter_reconstruction.specs.Frames.{PlaneReading, readPlane}
 use Rattle.inter_reconstruction.specs.Macroblock.{fieldSample, directionSample, rectangle}
 use Rattle.inter_reconstruction.specs.inner.Blocks.{PlaneFits, BlockAt, FieldRows, fieldRow, interleavedCell, fieldHalves, forwardBytes}
 
@@ -137,7 +137,7 @@ rectangle-at w h rule x y r c p q =
     getD-tab (w * h) _ (r * w + c) 0 (omega (arith, digits-lt q p, mul-comm w h)) ∙ rw (digits-div r p, digits-mod r p)
 
 -- ---- the two field blocks, interleaved, are the rows of the frame: row y + r is line y / 2 + r / 2 of its field
-module _ (read : Reading) (pair : FieldVectorPair) (w h x y : ℕ) (f : FieldRows y h) where
+module _ (read : PlaneReading) (pair : FieldVectorPair) (w h x y : ℕ) (f : FieldRows y h) where
   abbrev half : ℕ
   half = h / 2
 

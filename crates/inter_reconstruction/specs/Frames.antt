@@ -35,17 +35,17 @@ isPresent Absent = false
 isPresent (Present b) = true
 
 -- a plane as it is read: the sample at (x, y) of the frame's lines or of a field's
-abbrev pub Reading : Type 0
-Reading = Lines → ℤ → ℤ → ℕ
+abbrev pub PlaneReading : Type 0
+PlaneReading = Lines → ℤ → ℤ → ℕ
 
-abbrev pub readPlane : ReferencePlane → List ℕ → Reading
+abbrev pub readPlane : ReferencePlane → List ℕ → PlaneReading
 readPlane p samples l = sampleAt l (p .width) (p .height) samples
 
 -- a frame's planes
-abbrev pub readFrame : FrameBuffer → Samples → ColourComponent → Reading
+abbrev pub readFrame : FrameBuffer → Samples → ColourComponent → PlaneReading
 readFrame b s c = readPlane (planeOf b c) (s c)
 
 -- a reference's; of one that is absent nothing is ever read
-abbrev pub readReference : ReferenceFrame → Samples → ColourComponent → Reading
+abbrev pub readReference : ReferenceFrame → Samples → ColourComponent → PlaneReading
 readReference Absent s c = λ (l : Lines) (x y : ℤ). 0
 readReference (Present b) s c = readFrame b s c

@@ -10,7 +10,7 @@ use Rattle.forming_predictions.specs.Forming.{formed}
 use Rattle.pmv.specs.declared.kinds.ChromaFormat.{ChromaFormat}
 use Rattle.inter_reconstruction.specs.Components.{ColourComponent, luma, cb, cr, blockWidth, blockHeight}
 use Rattle.inter_reconstruction.specs.Motion.{usesOf, fieldVectorOf}
-use Rattle.inter_reconstruction.specs.Frames.{Reading}
+use Rattle.inter_reconstruction.specs.Frames.{PlaneReading}
 use Rattle.inter_reconstruction.specs.declared.motion.FieldVector.{FieldVector}
 use Rattle.inter_reconstruction.specs.declared.motion.DirectionMotion.{DirectionMotion}
 use Rattle.inter_reconstruction.specs.declared.motion.DirectionMotion.the-variants.{Frame, Field}
@@ -20,19 +20,19 @@ use Rattle.inter_reconstruction.specs.declared.motion.Uses.the-variants.
 -- ---- one sample
 
 -- a field's vector, at column x of that field's line
-unfoldable pub fieldSample : Means → Reading → FieldVector → ℕ → ℕ → ℕ
+unfoldable pub fieldSample : Means → PlaneReading → FieldVector → ℕ → ℕ → ℕ
 fieldSample m read u x line =
     formed m (read (field (u .«reference_field»))) (pos x) (pos line) (u .vector .horizontal) (u .vector .vertical)
 
 -- one direction's prediction of the sample at column x and row y of a plane. Row y of a frame is line y / 2 of the field that y's parity names,
 -- whose vector it goes by; which field is read is that vector's own choice. proofs/Rectangles.antt (interleaved-is) shows document 01's form of
 -- it: two field blocks from line base / 2 on, interleaved.
-unfoldable pub directionSample : Means → Reading → DirectionMotion → ℕ → ℕ → ℕ
+unfoldable pub directionSample : Means → PlaneReading → DirectionMotion → ℕ → ℕ → ℕ
 directionSample m read (Frame v) x y = formed m (read frame) (pos x) (pos y) (v .horizontal) (v .vertical)
 directionSample m read (Field p) x y = fieldSample m read (fieldVectorOf p (y % 2)) x (y / 2)
 
 -- 7.6.7: of one direction, or of two
-unfoldable pub usedSample : Means → Reading → Reading → Uses → ℕ → ℕ → ℕ
+unfoldable pub usedSample : Means → PlaneReading → PlaneReading → Uses → ℕ → ℕ → ℕ
 usedSample m forward backward (Forward d) x y = m .single (directionSample m forward d x y)
 usedSample m forward backward (Backward e) x y = m .single (directionSample m backward e x y)
 usedSample m forward backward (Both d e) x y = m .join (directionSample m forward d x y) (directionSample m backward e x y)
@@ -66,6 +66,6 @@ unfoldable pub macroblock : ChromaFormat → (ColourComponent → ℕ → ℕ �
 macroblock f rule col row = part f luma (rule luma) col row ++ (part f cb (rule cb) col row ++ part f cr (rule cr) col row)
 
 -- a macroblock's prediction
-abbrev pub predicted : Means → ChromaFormat → (ColourComponent → Reading) → (ColourComponent → Reading) → Uses → ℕ → ℕ → List ℕ
+abbrev pub predicted : Means → ChromaFormat → (ColourComponent → PlaneReading) → (ColourComponent → PlaneReading) → Uses → ℕ → ℕ → List ℕ
 predicted m f forward backward u col row =
     macroblock f (λ (c : ColourComponent). usedSample m (forward c) (backward c) (usesOf f u c)) col row

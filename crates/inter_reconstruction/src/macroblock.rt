@@ -49,6 +49,8 @@ pub const OTHER_GEOMETRY: u8 = 15;
 pub const FORWARD_MISSING: u8 = 16;
 /// Refusal: the backward reference is used, and absent.
 pub const BACKWARD_MISSING: u8 = 17;
+/// No refusal: the references are there and right, and the macroblock is written.
+const PREDICTED: u8 = 0;
 
 /// The last column and the last row of macroblocks that are taken.
 pub const LAST_CELL: usize = 1023;
@@ -338,9 +340,9 @@ fn predict_blocks(
     cr_block: &mut [u8],
 )
     requires { ⌜ FrameFits frame (samplesOf (now y) (now cb) (now cr)) × BlocksFit «chroma_format» «mb_col» «mb_row» (length (now «y_block»)) (length (now «cb_block»)) (length (now «cr_block»)) ⌝ }
-    ensures luminance { λ r. ⌜ now («y_block» .exit) ≡ directedPart «chroma_format» (readFrame frame (samplesOf (now (y .entry)) (now (cb .entry)) (now (cr .entry)))) motion ColourComponent.luma «mb_col» «mb_row» ⌝ }
-    ensures blue { λ r. ⌜ now («cb_block» .exit) ≡ directedPart «chroma_format» (readFrame frame (samplesOf (now (y .entry)) (now (cb .entry)) (now (cr .entry)))) motion ColourComponent.cb «mb_col» «mb_row» ⌝ }
-    ensures red { λ r. ⌜ now («cr_block» .exit) ≡ directedPart «chroma_format» (readFrame frame (samplesOf (now (y .entry)) (now (cb .entry)) (now (cr .entry)))) motion ColourComponent.cr «mb_col» «mb_row» ⌝ }
+    ensures y_block_at_exit { λ r. ⌜ now («y_block» .exit) ≡ directedPart «chroma_format» (readFrame frame (samplesOf (now (y .entry)) (now (cb .entry)) (now (cr .entry)))) motion ColourComponent.luma «mb_col» «mb_row» ⌝ }
+    ensures cb_block_at_exit { λ r. ⌜ now («cb_block» .exit) ≡ directedPart «chroma_format» (readFrame frame (samplesOf (now (y .entry)) (now (cb .entry)) (now (cr .entry)))) motion ColourComponent.cb «mb_col» «mb_row» ⌝ }
+    ensures cr_block_at_exit { λ r. ⌜ now («cr_block» .exit) ≡ directedPart «chroma_format» (readFrame frame (samplesOf (now (y .entry)) (now (cb .entry)) (now (cr .entry)))) motion ColourComponent.cr «mb_col» «mb_row» ⌝ }
 {
     let size = chroma_mb_extent(chroma_format);
     let width = size.width;
@@ -600,7 +602,7 @@ fn predict_with_one(
         mb_row,
         out,
     );
-    0
+    PREDICTED
 }
 
 /// The refusal of a direction whose reference is absent.
@@ -700,7 +702,7 @@ fn predict_with_two(
         mb_row,
         out,
     );
-    0
+    PREDICTED
 }
 
 /// Both directions: 16, then 17, where their references are absent.

@@ -1,17 +1,16 @@
 -- A signed local holds bits, so that a value z stands in a need as `toZ w (ofZ w z)`. These laws take the bits off.
 -- Assumes nothing.
-use mathlib.Core.Path.{_≡_, refl, sym, ap, _∙_}
-use mathlib.Core.Bool.{Bool, true, false, _&&_}
+use mathlib.Core.Path.{_≡_, ap, _∙_}
+use mathlib.Core.Bool.{true, false}
 use Prim.Native.Nat.{_^_, _<_}
 use native.Mathlib.Omega.{arith}
-use lib.Dec.{T, leb, eqb}
+use lib.Dec.{T, leb}
 use lib.IntN.{ℤ, pos, natAbs}
-use lib.Signed.{mag, ltZ, leZ, nonNeg}
-use borrow.Author.Tests.{eqb-true, eqb-false}
+use lib.Signed.{mag, ltZ, nonNeg}
 use mir.Syntax.{Width, w32, w64}
 use mir.Val.{SFits, Fits, hbits, bits, ofZ, toZ}
 use mir.Facts.{toZ-ofZ, sfits-widen, fits-bits}
-use Rattle.laws.proofs.Signed.{zp, zn, eq-z, zn-zero, zp-zero, lt-yes, lt-no, le-yes, yes-le, abs-z, nonNeg-z, sfits-hi}
+use Rattle.laws.proofs.Signed.{zp, zn, eq-z, zn-zero, zp-zero, lt-yes, lt-no, abs-z, nonNeg-z, sfits-hi}
 
 -- a signed result of a call: `back w32 (c .f .result) (c .f .ok)`
 pub back : (w : Width) (z : ℤ) → mag z < 2 ^ hbits w → toZ w (ofZ w z) ≡ z
@@ -45,7 +44,3 @@ cast-val {w} {z} f e = rw (toZ-ofZ f) (omega (arith, abs-z z))
 -- and the way back to the number
 pub up-is : {w : Width} (z : ℤ) → SFits w z → zn z ≡ 0 → pos (natAbs (toZ w (ofZ w z))) ≡ z
 up-is {w} z f e = rw (cast-val f e) (eq-z (pos (zp z)) z (omega arith))
-
--- `x == y` goes by the bits: equal bits are equal numbers
-pub eq-bits : {w : Width} {x y : ℤ} → SFits w x → SFits w y → ofZ w x ≡ ofZ w y → x ≡ y
-eq-bits {w} {x} {y} f g e = sym (toZ-ofZ f) ∙ ap (toZ w) e ∙ toZ-ofZ g

@@ -1,15 +1,13 @@
 -- How far a number is from 0: a bound for each operation, so that a chain of them fits a width by one comparison of numerals.
 -- Assumes nothing.
-use mathlib.Core.Path.{_≡_}
-use mathlib.Core.Bool.{false}
 use Prim.Native.Nat.{ℕ, _+_, _*_, _/_, _^_, _≤_, _<_}
 use native.Mathlib.Nat.{mul-le-mul-right, add-mul}
 use native.Mathlib.Omega.{arith}
 use lib.IntN.{ℤ, pos, negsuc, negℤ, _+ℤ_, _-ℤ_, _*ℤ_}
-use lib.Signed.{ltZ, mag, shrZ, quotZ}
+use lib.Signed.{mag, shrZ, quotZ}
 use mir.Syntax.{Width}
 use mir.Val.{SFits, hbits}
-use Rattle.laws.proofs.Signed.{zp, zn, add-z, sub-z, neg-p, neg-n, mul-p, mul-n, half-lo, half-hi, quot-p, quot-n, lt-no}
+use Rattle.laws.proofs.Signed.{zp, zn, add-z, sub-z, neg-p, neg-n, mul-p, mul-n, half-lo, half-hi, quot-p, quot-n}
 
 -- z is from -n to n
 pub record Within (n : ℕ) (z : ℤ) : Type 0 where

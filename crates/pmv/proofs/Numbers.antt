@@ -1,13 +1,14 @@
 -- Numbers and kinds: each way undoes the other, and the indices of a predictor are 0 or 1.
 -- Assumes nothing.
 use mathlib.Core.Path.{_≡_, refl}
-use mathlib.Core.Bool.{Bool, true, false}
+use mathlib.Core.Bool.{true, false}
 use Prim.Native.Nat.{ℕ, _≤_}
 use native.Mathlib.Omega.{arith}
 use borrow.Author.Tests.{ne-eqb}
 use Rattle.forming_predictions.specs.declared.FieldParity.{FieldParity}
 use Rattle.forming_predictions.specs.declared.FieldParity.the-variants.{Top, Bottom}
-use Rattle.pmv.specs.Kinds.{componentNumber, directionNumber, directionFrom, indexNumber, indexFrom, formatNumber, formatFrom, structureNumber, structureFrom, typeNumber, typeFrom, chromaNumber, chromaFrom, parityNumber, parityFrom, flagNumber, flagFrom}
+use Rattle.pmv.specs.Kinds.{componentNumber, directionNumber, directionFrom, indexNumber, indexFrom, formatNumber, formatFrom, structureNumber, structureFrom, typeNumber, typeFrom, chromaNumber, chromaFrom, parityFrom, flagFrom}
+use Rattle.forming_predictions.specs.Lines.{parityRow}
 use Rattle.pmv.specs.declared.kinds.Component.{Component}
 use Rattle.pmv.specs.declared.kinds.Component.the-variants.{Horizontal, Vertical}
 use Rattle.pmv.specs.declared.kinds.Direction.{Direction}
@@ -44,7 +45,7 @@ pub index-le : (r : VectorIndex) → indexNumber r ≤ 1
 index-le VectorIndex.First = omega arith
 index-le VectorIndex.Second = omega arith
 
--- ---- a kind's number means the kind; a larger number means none
+-- ---- a kind's number means the kind, and a parity's row the parity; a larger number means none
 pub direction-back : (k : Direction) → directionFrom (directionNumber k) ≡ OptionDirection.Some k
 direction-back Direction.Forward = refl
 direction-back Direction.Backward = refl
@@ -91,16 +92,15 @@ chroma-back ChromaFormat.Yuv444 = refl
 pub chroma-none : (n : ℕ) → 3 ≤ n → chromaFrom n ≡ OptionChromaFormat.None
 chroma-none n h = rw (ne-eqb n 0 (λ e. absurd (omega arith)), ne-eqb n 1 (λ e. absurd (omega arith)), ne-eqb n 2 (λ e. absurd (omega arith)))
 
-pub parity-back : (k : FieldParity) → parityFrom (parityNumber k) ≡ OptionFieldParity.Some k
+pub parity-back : (k : FieldParity) → parityFrom (parityRow k) ≡ OptionFieldParity.Some k
 parity-back Top = refl
 parity-back Bottom = refl
 
 pub parity-none : (n : ℕ) → 2 ≤ n → parityFrom n ≡ OptionFieldParity.None
 parity-none n h = rw (ne-eqb n 0 (λ e. absurd (omega arith)), ne-eqb n 1 (λ e. absurd (omega arith)))
 
-pub flag-back : (k : Bool) → flagFrom (flagNumber k) ≡ OptionFlag.Some k
-flag-back false = refl
-flag-back true = refl
+pub flag-back : (flagFrom 0 ≡ OptionFlag.Some false) × (flagFrom 1 ≡ OptionFlag.Some true)
+flag-back = (refl, refl)
 
 pub flag-none : (n : ℕ) → 2 ≤ n → flagFrom n ≡ OptionFlag.None
 flag-none n h = rw (ne-eqb n 0 (λ e. absurd (omega arith)), ne-eqb n 1 (λ e. absurd (omega arith)))

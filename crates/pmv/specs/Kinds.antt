@@ -1,6 +1,7 @@
 -- The kinds that this layer's calls choose by. Document 01 counts them from 0 in the order of the Rust's enums where they cross to C, and
 -- any other number has no meaning. `XNumber` is the number of a kind, `XFrom` the kind of a number, if there is one; proofs/Numbers.antt
--- shows that each undoes the other. Component and PictureCodingType cross in no C call, and have no `XFrom`.
+-- shows that each undoes the other. Component and PictureCodingType cross in no C call, and have no `XFrom`; parities and flags are only read,
+-- and have no `XNumber`.
 -- The standard has the kinds: r, s and t in Table 7-7, the motion types in Tables 6-17 and 6-18, and picture_structure, picture_coding_type and
 -- chroma_format, whose codes are others.
 use mathlib.Core.Bool.{Bool, true, false, cond}
@@ -128,10 +129,6 @@ chromaFrom n =
     OptionChromaFormat.None))
 
 -- the parity of a field
-abbrev pub parityNumber : FieldParity → ℕ
-parityNumber Top = 0
-parityNumber Bottom = 1
-
 abbrev pub parityFrom : ℕ → OptionFieldParity
 parityFrom n =
     cond (eqb n 0) (OptionFieldParity.Some Top)
@@ -139,10 +136,6 @@ parityFrom n =
     OptionFieldParity.None)
 
 -- yes or no
-abbrev pub flagNumber : Bool → ℕ
-flagNumber false = 0
-flagNumber true = 1
-
 abbrev pub flagFrom : ℕ → OptionFlag
 flagFrom n =
     cond (eqb n 0) (OptionFlag.Some false)

@@ -5,7 +5,7 @@ use crate::kinds::PictureStructure;
 ghost use mathlib.Core.Path.{_≡_};
 ghost use mathlib.Core.Bool.{false};
 ghost use Prim.Native.Nat.{_+_, _≤_};
-ghost use lib.IntN.{ℤ, natAbs, _+ℤ_, _-ℤ_};
+ghost use lib.IntN.{natAbs, _+ℤ_, _-ℤ_};
 ghost use Rattle.laws.proofs.Bounded.{Within};
 ghost use Rattle.forming_predictions.specs.SampleAnswers.{valueUnless};
 ghost use Rattle.pmv.specs.Delta.{scale, isPlain, withSign, delta, fCodeFits, codeFits, residualRefusal, fCodeRefusal, deltaRefusal};

@@ -6,7 +6,7 @@ ghost use mathlib.Core.Path.{_≡_};
 ghost use mathlib.Core.Bool.{cond};
 ghost use Prim.Native.Nat.{_<_};
 ghost use lib.Dec.{eqb};
-ghost use Rattle.pmv.specs.Predictors.{pmvIndex, predictor, stored, pairOf, pairStored, zeroed, firstCopied};
+ghost use Rattle.pmv.specs.Predictors.{pmvIndex, predictor, stored, pairOf, pairStored, zeroed};
 
 /// The eight predictors in half samples: PMV\[r\]\[s\]\[t\] is at 4r + 2s + t.
 pub struct Pmv {
@@ -96,13 +96,5 @@ impl Pmv {
     {
         let p = self.with(r, s, Component::Horizontal, pair.horizontal);
         p.with(r, s, Component::Vertical, pair.vertical)
-    }
-
-    /// The predictors with the first vector's of a direction copied to the second's.
-    pub fn with_first_copied(self, s: Direction) -> Self
-        ensures { λ p. ⌜ p ≡ firstCopied s self ⌝ }
-    {
-        let first = self.pair(VectorIndex::First, s);
-        self.with_pair(VectorIndex::Second, s, first)
     }
 }

@@ -7,11 +7,11 @@ use crate::predictors::Pmv;
 ghost use mathlib.Core.Path.{_≡_};
 ghost use mathlib.Core.Bool.{cond};
 ghost use Prim.Native.Nat.{_≤_};
-ghost use Rattle.pmv.specs.Kinds.{typeNumber, flagNumber};
+ghost use Rattle.pmv.specs.Kinds.{typeNumber};
 ghost use Rattle.pmv.specs.Update.{updateRefusal, updateOutcome, outcomeNumber, updated, spatialTemporalReset};
 ghost use Rattle.forming_predictions.specs.SampleAnswers.{valueUnless};
 ghost use Rattle.pmv.specs.Answers.{updateNumber, updateValue};
-ghost use Rattle.pmv.specs.inner.Rows.{tableRow, typeOrAny, isAbsent, decidedRow, outcomeOf, answerOf, carriedOut};
+ghost use Rattle.pmv.specs.inner.Rows.{flagNumber, tableRow, typeOrAny, isAbsent, decidedRow, outcomeOf, answerOf, carriedOut};
 
 /// Refusal: an intra macroblock with a motion flag.
 pub const INTRA_WITH_MOTION: u8 = 7;

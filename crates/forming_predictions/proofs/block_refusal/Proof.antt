@@ -21,7 +21,7 @@ start c = c .before .before .before .before .before .before
 domain : (c : tie.After-domain-refusal)
     → c .domain-refusal .result
     ≡ (let a = start c .args in
-    cause (not (planeFits (a .plane .width) (a .plane .height) (a .length) && ((blockSideFits (a .size .width) && blockSideFits (a .size .height)) && (positionFits lastBlock (a .x) && positionFits lastBlock (a .y))))) outsideDomain)
+    cause (not (planeFits (a .plane .width) (a .plane .height) (a .count) && ((blockSideFits (a .size .width) && blockSideFits (a .size .height)) && (positionFits lastBlock (a .x) && positionFits lastBlock (a .y))))) outsideDomain)
 domain c =
     let f = c .before in
     let q = f .before in
@@ -43,11 +43,11 @@ length-cause c = let a = start c .args in cause (not (eqb (a .room) (a .size .wi
 
 whole : (c : tie.After-domain-refusal)
     → orElse (c .domain-refusal .result) (length-cause c)
-    ≡ (let a = start c .args in blockRefusal (a .plane .width) (a .plane .height) (a .length) (a .x) (a .y) (a .size .width) (a .size .height) (a .room))
+    ≡ (let a = start c .args in blockRefusal (a .plane .width) (a .plane .height) (a .count) (a .x) (a .y) (a .size .width) (a .size .height) (a .room))
 whole c =
     let a = start c .args in
     ap (λ (m : ℕ). orElse m (length-cause c)) (domain c)
-    ∙ block-cause (a .plane .width) (a .plane .height) (a .length) (a .x) (a .y) (a .size .width) (a .size .height) (a .room)
+    ∙ block-cause (a .plane .width) (a .plane .height) (a .count) (a .x) (a .y) (a .size .width) (a .size .height) (a .room)
 
 returns : tie.Need-returns
 returns c = let d = c .before in first-cause (d .domain-refusal .result) (length-cause d) (c .if1 .taken) ∙ whole d
@@ -57,7 +57,7 @@ mul-if2 c =
     let e = c .before in
     let d = e .before in
     let a = start d .args in
-    let sides = sides-fit (planeFits (a .plane .width) (a .plane .height) (a .length)) (positionFits lastBlock (a .x) && positionFits lastBlock (a .y)) (a .size .width) (a .size .height) (sym (domain d) ∙ e .if1 .left) in
+    let sides = sides-fit (planeFits (a .plane .width) (a .plane .height) (a .count)) (positionFits lastBlock (a .x) && positionFits lastBlock (a .y)) (a .size .width) (a .size .height) (sym (domain d) ∙ e .if1 .left) in
     product-fits _ _ (omega (arith, sides)) (omega (arith, sides))
 
 returns-2 : tie.Need-returns-2

@@ -15,7 +15,7 @@ returns c =
     let s = f .before in
     let a = s .args in
     (rw (f .plane-fits .ensures, rw (toZ-ofZ (s .fits .x)) at (p .position-fits .ensures), rw (toZ-ofZ (s .fits .y)) at (q .position-fits2 .ensures)) at (c .domain-refusal .ensures))
-    ∙ sample-cause (a .plane .width) (a .plane .height) (a .length) (a .x) (a .y)
+    ∙ sample-cause (a .plane .width) (a .plane .height) (a .count) (a .x) (a .y)
 
 pub sample-refusal-spec : {M : Type 1} → statement M
 sample-refusal-spec =

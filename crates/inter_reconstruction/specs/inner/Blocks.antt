@@ -11,7 +11,7 @@ use Rattle.forming_predictions.specs.Refusals.{planeFits}
 use Rattle.forming_predictions.specs.declared.ReferencePlane.{ReferencePlane}
 use Rattle.forming_predictions.specs.Means.{rounded}
 use Rattle.inter_reconstruction.specs.declared.motion.FieldVectorPair.{FieldVectorPair}
-use Rattle.inter_reconstruction.specs.Frames.{Reading}
+use Rattle.inter_reconstruction.specs.Frames.{PlaneReading}
 use Rattle.inter_reconstruction.specs.Macroblock.{fieldSample, rectangle}
 
 -- a plane with its samples is in the domain
@@ -40,7 +40,7 @@ pub record HalvesAt (x line w h n : ℕ) : Type 0 where
   pub count : n ≡ w * h + w * h
 
 -- the lines of both fields
-unfoldable pub fieldHalves : Reading → FieldVectorPair → ℕ → ℕ → ℕ → ℕ → List ℕ
+unfoldable pub fieldHalves : PlaneReading → FieldVectorPair → ℕ → ℕ → ℕ → ℕ → List ℕ
 fieldHalves read p w h x line =
     rectangle w h (fieldSample rounded read (p .top)) x line
     ++ rectangle w h (fieldSample rounded read (p .bottom)) x line

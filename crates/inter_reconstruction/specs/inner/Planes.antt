@@ -10,7 +10,7 @@ use Rattle.combine_predictions.specs.declared.PredictionDirection.the-variants 
 use Rattle.forming_predictions.specs.Means.{rounded}
 use Rattle.pmv.specs.declared.kinds.ChromaFormat.{ChromaFormat}
 use Rattle.inter_reconstruction.specs.Components.{ColourComponent, luma, cb, cr, blockBytes, macroblockBytes}
-use Rattle.inter_reconstruction.specs.Frames.{Samples, Reading, planeOf}
+use Rattle.inter_reconstruction.specs.Frames.{Samples, PlaneReading, planeOf}
 use Rattle.inter_reconstruction.specs.Motion.{chromaMotion}
 use Rattle.inter_reconstruction.specs.Macroblock.{directionSample, usedSample, rectangle, part, macroblock}
 use Rattle.inter_reconstruction.specs.Refusals.{forwardMissing, backwardMissing, cellRefusal, geometryRefusal, planesRefusal}
@@ -36,8 +36,8 @@ pub record BlocksFit (f : ChromaFormat) (col row a b r : ℕ) : Type 0 where
   pub column : col ≤ 1023
   pub line : row ≤ 1023
   pub luminance : a ≡ blockBytes f luma
-  pub blue : b ≡ blockBytes f cb
-  pub red : r ≡ blockBytes f cr
+  pub cbLength : b ≡ blockBytes f cb
+  pub crLength : r ≡ blockBytes f cr
 
 -- ---- one direction
 
@@ -48,10 +48,10 @@ motionOf f d cb = chromaMotion f d
 motionOf f d cr = chromaMotion f d
 
 -- its block of a component, and all three
-abbrev pub directedPart : ChromaFormat → (ColourComponent → Reading) → DirectionMotion → ColourComponent → ℕ → ℕ → List ℕ
+abbrev pub directedPart : ChromaFormat → (ColourComponent → PlaneReading) → DirectionMotion → ColourComponent → ℕ → ℕ → List ℕ
 directedPart f read d c col row = part f c (directionSample rounded (read c) (motionOf f d c)) col row
 
-abbrev pub directed : ChromaFormat → (ColourComponent → Reading) → DirectionMotion → ℕ → ℕ → List ℕ
+abbrev pub directed : ChromaFormat → (ColourComponent → PlaneReading) → DirectionMotion → ℕ → ℕ → List ℕ
 directed f read d col row = macroblock f (λ (c : ColourComponent). directionSample rounded (read c) (motionOf f d c)) col row
 
 -- the refusal of its absence
@@ -63,7 +63,7 @@ missingIn PredictionDirection.Skipped = forwardMissing
 -- ---- both directions
 
 -- both chrominance components
-unfoldable pub chromaBlocks : Reading → Reading → Reading → Reading → Uses → ℕ → ℕ → ℕ → ℕ → List ℕ
+unfoldable pub chromaBlocks : PlaneReading → PlaneReading → PlaneReading → PlaneReading → Uses → ℕ → ℕ → ℕ → ℕ → List ℕ
 chromaBlocks fb fr bb br u w h x y = rectangle w h (usedSample rounded fb bb u) x y ++ rectangle w h (usedSample rounded fr br u) x y
 
 -- what is refused of one reference that is there, and of two

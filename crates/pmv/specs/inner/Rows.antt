@@ -8,7 +8,7 @@ use lib.Dec.{eqb, ltb}
 use lib.Bits.{bitAnd}
 use lib.IntN.{ℤ, pos}
 use lib.ListN.{getD}
-use Rattle.pmv.specs.Kinds.{flagNumber, typeNumber, isFramePicture}
+use Rattle.pmv.specs.Kinds.{typeNumber, isFramePicture}
 use Rattle.pmv.specs.declared.kinds.PredictionType.{PredictionType}
 use Rattle.pmv.specs.declared.kinds.PredictionType.the-variants.{FieldBased}
 use Rattle.pmv.specs.declared.kinds.MotionType.{MotionType}
@@ -32,6 +32,11 @@ outcomes =
     ∷ 208 ∷ 12 ∷ 208 ∷ 184 ∷ 208 ∷ 184 ∷ 208 ∷ 184
     ∷ 216 ∷ 12 ∷ 216 ∷ 184 ∷ 57 ∷ 184 ∷ 216 ∷ 184
     ∷ []
+
+-- a flag, to be counted with
+abbrev pub flagNumber : Bool → ℕ
+flagNumber false = 0
+flagNumber true = 1
 
 abbrev pub tableRow : Bool → PredictionType → Bool → Bool → Bool → ℕ
 tableRow p t f b i = getD outcomes ((flagNumber p * 32 + typeNumber t * 8) + (flagNumber f * 4 + flagNumber b * 2 + flagNumber i)) 0

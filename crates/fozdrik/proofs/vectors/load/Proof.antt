@@ -6,7 +6,7 @@ use native.Mathlib.Omega.{arith}
 use mir.Syntax.{w32}
 use borrow.Author.Needs.{needs}
 use Rattle.fozdrik.proofs.vectors.load.Tie as tie
-use Rattle.fozdrik.specs.Layout.{numberOf, wordAt, numberAt}
+use Rattle.fozdrik.specs.Layout.{signedOf, wordAt, numberAt}
 use Rattle.laws.proofs.Bits.{back}
 use Rattle.fozdrik.proofs.vectors.load.Statement.{statement}
 
@@ -74,7 +74,7 @@ returns c =
     let e : a .wide .result + b .before .before .wide2 .result * 256 + b .wide3 .result * 65536 + d .wide4 .result * 16777216
     ≡ wordAt (s .bytes .now) (s .at)
     = omega (arith, a .wide .ensures, b .before .before .wide2 .ensures, b .wide3 .ensures, d .wide4 .ensures) in
-    back w32 (c .signed .result) (c .signed .ok) ∙ c .signed .ensures ∙ ap numberOf e
+    back w32 (c .signed .result) (c .signed .ok) ∙ c .signed .ensures ∙ ap signedOf e
 
 pub load-spec : {M : Type 1} → statement M
 load-spec =

@@ -57,7 +57,7 @@ predict-direction-requires-2 c κs =
     let s = entry k in
     let f = s .args .chroma-format in (
       s .pre .0 cb,
-      chroma-block f _ _ (k .chroma-mb-extent .ensures .0) (k .chroma-mb-extent .ensures .1) (cell k) _ (s .pre .1 .blue),
+      chroma-block f _ _ (k .chroma-mb-extent .ensures .0) (k .chroma-mb-extent .ensures .1) (cell k) _ (s .pre .1 .cbLength),
       chroma-rows f _ _ (k .chroma-mb-extent .ensures .0) (k .chroma-mb-extent .ensures .1) (s .args .mb-row),
     )
 
@@ -67,7 +67,7 @@ predict-direction-requires-3 c κs =
     let s = entry k in
     let f = s .args .chroma-format in (
       s .pre .0 cr,
-      chroma-block f _ _ (k .chroma-mb-extent .ensures .0) (k .chroma-mb-extent .ensures .1) (cell k) _ (s .pre .1 .red),
+      chroma-block f _ _ (k .chroma-mb-extent .ensures .0) (k .chroma-mb-extent .ensures .1) (cell k) _ (s .pre .1 .crLength),
       chroma-rows f _ _ (k .chroma-mb-extent .ensures .0) (k .chroma-mb-extent .ensures .1) (s .args .mb-row),
     )
 

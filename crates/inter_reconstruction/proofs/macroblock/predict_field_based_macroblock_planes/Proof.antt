@@ -7,7 +7,7 @@ use borrow.Author.Needs.{needs}
 use lib.ListN.{length}
 use Rattle.combine_predictions.specs.Refusals.{unlessRefused}
 use Rattle.inter_reconstruction.specs.Components.{ColourComponent}
-use Rattle.inter_reconstruction.specs.Frames.{Reading, samplesOf, lengthsOf, isPresent, readReference}
+use Rattle.inter_reconstruction.specs.Frames.{PlaneReading, samplesOf, lengthsOf, isPresent, readReference}
 use Rattle.inter_reconstruction.specs.Motion.{fieldUses}
 use Rattle.inter_reconstruction.specs.declared.motion.Uses.{Uses}
 use Rattle.inter_reconstruction.specs.inner.Planes.{destinationRefusal}
@@ -19,10 +19,10 @@ abbrev start : tie.After-destination-refusal → tie.Start
 start c = c .before .before .before .before .before .before .before .before
 
 -- what is read of the two references, and the lengths of their planes
-abbrev forwards : tie.Start → ColourComponent → Reading
+abbrev forwards : tie.Start → ColourComponent → PlaneReading
 forwards s = let a = s .args in readReference (a .forward) (samplesOf (a .forward-y .now) (a .forward-cb .now) (a .forward-cr .now))
 
-abbrev backwards : tie.Start → ColourComponent → Reading
+abbrev backwards : tie.Start → ColourComponent → PlaneReading
 backwards s = let a = s .args in readReference (a .backward) (samplesOf (a .backward-y .now) (a .backward-cb .now) (a .backward-cr .now))
 
 abbrev forward-lengths : tie.Start → ColourComponent → ℕ

@@ -38,11 +38,11 @@ front-bytes k = prefix-length (count k) (blank 256) (small k)
 abbrev luminance : tie.After-predict-blocks → List ℕ
 luminance c = c .predict-blocks .last .1 .1 .1 .1 .1 .1 .1 .1 .0
 
-abbrev blue : tie.After-predict-blocks → List ℕ
-blue c = c .predict-blocks .last .1 .1 .1 .1 .1 .1 .1 .1 .1 .0
+abbrev cbBlock : tie.After-predict-blocks → List ℕ
+cbBlock c = c .predict-blocks .last .1 .1 .1 .1 .1 .1 .1 .1 .1 .0
 
-abbrev red : tie.After-predict-blocks → List ℕ
-red c = c .predict-blocks .last .1 .1 .1 .1 .1 .1 .1 .1 .1 .1 .0
+abbrev crBlock : tie.After-predict-blocks → List ℕ
+crBlock c = c .predict-blocks .last .1 .1 .1 .1 .1 .1 .1 .1 .1 .1 .0
 
 abbrev rest : tie.After-predict-blocks → List ℕ
 rest c = drop (count (extent c)) (blank 256)
@@ -50,11 +50,11 @@ rest c = drop (count (extent c)) (blank 256)
 luminance-length : (c : tie.After-predict-blocks) → length (luminance c) ≡ 256
 luminance-length c = ap length (c .predict-blocks .ensures .0) ∙ rectangle-length _ _ _ _ _
 
-blue-length : (c : tie.After-predict-blocks) → length (blue c) ≡ count (extent c)
-blue-length c = ap length (c .predict-blocks .ensures .1 .0) ∙ rectangle-length _ _ _ _ _ ∙ sym (bytes (extent c))
+cb-length : (c : tie.After-predict-blocks) → length (cbBlock c) ≡ count (extent c)
+cb-length c = ap length (c .predict-blocks .ensures .1 .0) ∙ rectangle-length _ _ _ _ _ ∙ sym (bytes (extent c))
 
-red-length : (c : tie.After-predict-blocks) → length (red c) ≡ count (extent c)
-red-length c = ap length (c .predict-blocks .ensures .1 .1) ∙ rectangle-length _ _ _ _ _ ∙ sym (bytes (extent c))
+cr-length : (c : tie.After-predict-blocks) → length (crBlock c) ≡ count (extent c)
+cr-length c = ap length (c .predict-blocks .ensures .1 .1) ∙ rectangle-length _ _ _ _ _ ∙ sym (bytes (extent c))
 
 chroma-mb-extent-requires : tie.Need-chroma-mb-extent-requires
 chroma-mb-extent-requires c κs = search needs
@@ -82,22 +82,22 @@ predict-blocks-requires c κs =
     let k = c .before .before .before .before in
     let s = entry k in
     let n = sym (front-bytes k) ∙ bytes k in
-    (s .pre .0, record { column = s .pre .1 .column; line = s .pre .1 .line; luminance = refl; blue = n; red = n })
+    (s .pre .0, record { column = s .pre .1 .column; line = s .pre .1 .line; luminance = refl; cbLength = n; crLength = n })
 
 slice-aggregate-store-blocks : tie.Need-slice-aggregate-store-blocks
 slice-aggregate-store-blocks c = search needs
 
 array-share-prefix-cb-block : tie.Need-array-share-prefix-cb-block
-array-share-prefix-cb-block c = let b = c .before .before .before .before in front-within (count (extent b)) (blue b) (rest b) (blue-length b)
+array-share-prefix-cb-block c = let b = c .before .before .before .before in front-within (count (extent b)) (cbBlock b) (rest b) (cb-length b)
 
 slice-aggregate-store-blocks-2 : tie.Need-slice-aggregate-store-blocks-2
-slice-aggregate-store-blocks-2 c = let b = c .before .before .before .before .before in front-length (count (extent b)) (blue b) (rest b) (blue-length b)
+slice-aggregate-store-blocks-2 c = let b = c .before .before .before .before .before in front-length (count (extent b)) (cbBlock b) (rest b) (cb-length b)
 
 array-share-prefix-cr-block : tie.Need-array-share-prefix-cr-block
-array-share-prefix-cr-block c = let b = c .before .before .before .before .before in front-within (count (extent b)) (red b) (rest b) (red-length b)
+array-share-prefix-cr-block c = let b = c .before .before .before .before .before in front-within (count (extent b)) (crBlock b) (rest b) (cr-length b)
 
 slice-aggregate-store-blocks-3 : tie.Need-slice-aggregate-store-blocks-3
-slice-aggregate-store-blocks-3 c = let b = c .before .before .before .before .before .before in front-length (count (extent b)) (red b) (rest b) (red-length b)
+slice-aggregate-store-blocks-3 c = let b = c .before .before .before .before .before .before in front-length (count (extent b)) (crBlock b) (rest b) (cr-length b)
 
 store-blocks-requires : tie.Need-store-blocks-requires
 store-blocks-requires c κs =
@@ -107,8 +107,8 @@ store-blocks-requires c κs =
     omega (
       arith,
       luminance-length b,
-      front-length (count k) (blue b) (rest b) (blue-length b),
-      front-length (count k) (red b) (rest b) (red-length b),
+      front-length (count k) (cbBlock b) (rest b) (cb-length b),
+      front-length (count k) (crBlock b) (rest b) (cr-length b),
       chroma-total (s .args .chroma-format) _ _ (k .chroma-mb-extent .ensures .0) (k .chroma-mb-extent .ensures .1) (s .pre .1),
     )
 
@@ -121,9 +121,9 @@ returns c =
     let v = c .before .before in
     let b = v .before .before .before .before .before .before .before .before in
     let n = count (extent b) in
-    let blues = front-is n (blue b) (rest b) (blue-length b) ∙ b .predict-blocks .ensures .1 .0 in
-    let reds = front-is n (red b) (rest b) (red-length b) ∙ b .predict-blocks .ensures .1 .1 in
-    v .store-blocks .ensures ∙ (λ i. b .predict-blocks .ensures .0 i ++ (blues i ++ reds i))
+    let cbs = front-is n (cbBlock b) (rest b) (cb-length b) ∙ b .predict-blocks .ensures .1 .0 in
+    let crs = front-is n (crBlock b) (rest b) (cr-length b) ∙ b .predict-blocks .ensures .1 .1 in
+    v .store-blocks .ensures ∙ (λ i. b .predict-blocks .ensures .0 i ++ (cbs i ++ crs i))
 
 pub predict-from-one-spec : {M : Type 1} → statement M
 predict-from-one-spec =

@@ -16,7 +16,7 @@ use Rattle.inter_reconstruction.specs.Motion.{fieldVectorOf}
 use Rattle.inter_reconstruction.specs.Macroblock.{columnAt, rowAt, fieldSample, rectangle}
 use Rattle.inter_reconstruction.specs.declared.motion.FieldVector.{FieldVector}
 use Rattle.inter_reconstruction.specs.declared.motion.FieldVectorPair.{FieldVectorPair}
-use Rattle.inter_reconstruction.specs.Frames.{Reading, readPlane}
+use Rattle.inter_reconstruction.specs.Frames.{PlaneReading, readPlane}
 use Rattle.inter_reconstruction.specs.inner.Blocks.{fieldHalves}
 use Rattle.inter_reconstruction.proofs.Rectangles.{rectangle-length, with-count}
 use Rattle.inter_reconstruction.proofs.macroblock.predict_halves.Statement.{statement}
@@ -33,7 +33,7 @@ abbrev start : tie.At-loop Inv-loop μ-loop → tie.Start Inv-loop μ-loop
 start c = c .before .before .before
 
 -- both blocks, cell by cell
-module _ (read : Reading) (pair : FieldVectorPair) (w h x line : ℕ) where
+module _ (read : PlaneReading) (pair : FieldVectorPair) (w h x line : ℕ) where
   abbrev block : FieldVector → List ℕ
   block u = rectangle w h (fieldSample rounded read u) x line
 

@@ -4,8 +4,8 @@ use mathlib.Core.Path.{_≡_, ap}
 use Prim.Native.Nat.{ℕ, _+_, _*_}
 use native.Mathlib.Omega.{arith}
 use lib.ListN.{getD}
-use Rattle.pmv.specs.Kinds.{flagNumber, typeNumber}
-use Rattle.pmv.specs.inner.Rows.{outcomes}
+use Rattle.pmv.specs.Kinds.{typeNumber}
+use Rattle.pmv.specs.inner.Rows.{outcomes, flagNumber}
 use borrow.Author.Needs.{needs}
 use Rattle.pmv.proofs.update.row_at.Statement.{statement}
 use Rattle.pmv.proofs.update.row_at.Tie as tie
