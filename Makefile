@@ -15,9 +15,10 @@
 # make plot            draw docs/drift.svg anew, from what the program run_drift prints
 # make forms-check     see that the lines which docs/DECISIONS.md gives for document 01's forms have them
 # make test            the gate: prove everything from nothing, try the must-fail edits, run the programs
-# make differential    build the Rust original, see that the lists in the repository are its answers, and compare the
-#                      library with it, call by call through C, by the million; SEED=N and COUNT=N draw other cases or more;
-#                      make lists-check and make compare do one of the two
+# make differential    build the Rust original, and compare the port with it: see that the lists in the repository are its
+#                      answers (make lists-check); draw other lists, and replay them by the Rattle programs, every public
+#                      call by the million (make replays); and compare the C calls, by the million (make compare). SEED=N,
+#                      ROUNDS=N and COUNT=N draw other cases or more
 # make lists           make those lists anew
 # make mutate          try small mutations of the code against the lists and the fuzzer, without proof, and of the definitions
 #                      against cases that the prover computes; each that nothing notices has to be in mutate/survivors.txt,
@@ -54,7 +55,7 @@ sources = crates.txt $(shell find $(addprefix crates/,$(1)) -name '*.rt' -o -nam
 .DELETE_ON_ERROR:
 
 .PHONY: all declarations symbols header-test example-check sanitize fuzz fuzz-check fuzz-coverage picture demonstration \
-	plot forms-check test differential lists-check compare lists mutate bench bench-counts clean
+	plot forms-check test differential lists-check replays compare lists mutate bench bench-counts clean
 
 all: $(LIBRARY)
 	@mkdir -p build
@@ -265,10 +266,19 @@ test:
 
 COMPARE = cd differential && $(CARGO) run --release --offline --features compare --bin compare --
 
-differential: lists-check compare
+differential: lists-check replays compare
 
 lists-check:
 	cd differential && $(CARGO) run --release --offline --bin lists -- --check
+
+REPLAYS = $(addprefix replay_,combine_predictions forming_predictions pmv inter_reconstruction)
+
+replays:
+	@mkdir -p build
+	@echo "proving and building $(REPLAYS)"
+	@$(RT) check $(REPLAYS) >build/check.log 2>&1 || { tail -n 40 build/check.log; exit 1; }
+	cd differential && $(CARGO) run --release --offline --bin lists -- --replay ../target/bin \
+		$(if $(SEED),--seed $(SEED)) $(if $(ROUNDS),--rounds $(ROUNDS))
 
 compare: $(LIBRARY)
 	$(COMPARE) --wrong

@@ -9,7 +9,9 @@ use oracle::combine_predictions::{
 };
 use oracle::rng::Rng;
 
-use crate::list::{ACCEPTED, Hex, List, ORIGINAL, OUTPUT_LENGTH, ramp, telling_fill};
+use crate::list::{
+    ACCEPTED, Edition, Hex, Kind, List, ORIGINAL, OUTPUT_LENGTH, kind, ramp, refusing, telling_fill,
+};
 
 const SEED: u64 = 767;
 
@@ -23,6 +25,11 @@ const ONE_SIDED: [PredictionDirection; 3] = [
     PredictionDirection::Skipped,
 ];
 
+const KINDS: &[Kind] = &[
+    refusing("1", "average_predictions", 5, &[0, 18, 19]),
+    kind("2", "combine_directional_predictions"),
+];
+
 const FIELDS: &str = "\
 1 FORWARD BACKWARD FILL LENGTH ANSWER AFTER
   average_predictions of FORWARD and BACKWARD into an output that holds LENGTH bytes before
@@ -32,12 +39,13 @@ const FIELDS: &str = "\
   combine_directional_predictions. DIRECTION is 0 Forward, 1 Backward, 3 Skipped, as the
   original's enum counts them; 2, Bidirectional, is not in the port's kind.";
 
-pub fn list() -> List {
+pub fn list(edition: Edition) -> List {
+    let seed = edition.seed(SEED);
     let made = format!(
         "Answers of average_predictions and combine_directional_predictions
 (src/combine_predictions.rs of
 {ORIGINAL},
-release build) to inputs drawn by splitmix64 from the seed {SEED}.
+release build) to inputs drawn by splitmix64 from the seed {seed}.
 The original returns a new vector, or None where the lengths differ. What follows from the
 output being lent is document 01's, the scope paper's: the number 19 for that None, the
 number 18 for an output of the wrong length, 19 before 18, and that a refusal changes nothing.
@@ -46,17 +54,20 @@ The last group is wrong on purpose."
     let mut list = List::new(
         "averaging",
         "crates/replay_combine_predictions/stdin",
+        KINDS,
         &made,
         FIELDS,
     );
-    let mut rng = Rng::new(SEED);
+    let mut rng = Rng::new(seed);
     document_01(&mut list, &mut rng);
     equal_lengths(&mut list, &mut rng);
     every_pair(&mut list, &mut rng);
     wrong_outputs(&mut list, &mut rng);
     differing_lengths(&mut list, &mut rng);
     directions(&mut list, &mut rng);
-    wrong_on_purpose(&mut list, &mut rng);
+    if edition.is_kept() {
+        wrong_on_purpose(&mut list, &mut rng);
+    }
     list
 }
 

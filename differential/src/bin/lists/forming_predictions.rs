@@ -8,7 +8,7 @@ use std::iter;
 use oracle::forming_predictions::{BlockSize, HalfPattern};
 use oracle::rng::Rng;
 
-use crate::list::{List, ORIGINAL, OUTPUT_LENGTH};
+use crate::list::{Edition, Kind, List, ORIGINAL, OUTPUT_LENGTH, kind, refusing};
 use cases::{
     BLOCK_POSITIONS, BLOCK_SIDES, ComponentSplitting, FieldHeights, Flags, LARGEST_SIDE, Plane,
     Position, PredictedBlock, PredictedSample, REFERENCES, Reference, SAMPLE_POSITIONS, Sample,
@@ -39,6 +39,18 @@ const HUGE: usize = 100_000_000_000_000_000;
 /// A port that keeps 32 bits takes this for 0; its square is lost in 64.
 const TWO_TO_32: usize = 1 << 32;
 
+const KINDS: &[Kind] = &[
+    kind("1", "split_component"),
+    kind("2", "split_vector, pattern"),
+    kind("3", "from_flags, is_half_pel"),
+    kind("4", "FieldReference::height"),
+    kind("5", "(sets a plane)"),
+    kind("6", "(sets a plane)"),
+    refusing("7", "sample, of a plane or a field", 4, &[0, 14]),
+    refusing("8", "predict_sample, predict_field_sample", 6, &[0, 14]),
+    refusing("9", "predict_block, predict_field_block", 10, &[0, 14, 18]),
+];
+
 const FIELDS: &str = "\
 Flags are 0 or 1. PATTERN is 0 Integer, 1 HalfHorizontal, 2 HalfVertical, 3 HalfBoth, as the
 original's enum counts them. FROM is what is read: 0 the top field, 1 the bottom field, 2 the
@@ -64,11 +76,12 @@ frame. ANSWER is 0 or the refusal's number; SAMPLE is 0 where refused.
   predict_block or predict_field_block into an output that holds LENGTH bytes, at most 1024,
   before the call: FILL, FILL + 1 and so on, modulo 256. AFTER is the output after it.";
 
-pub fn list() -> List {
+pub fn list(edition: Edition) -> List {
+    let seed = edition.seed(SEED);
     let made = format!(
         "Answers of the calls of src/forming_predictions.rs
 ({ORIGINAL},
-release build) to inputs drawn by splitmix64 from the seed {SEED}.
+release build) to inputs drawn by splitmix64 from the seed {seed}.
 The original returns a new vector, and None for a plane whose length is not its width times its
 height and for a block with a side of 0. Document 01's, the scope paper's, are the number 14 for
 those; the same number for a plane with a side over 16384, a block with a side over 16, and a
@@ -80,10 +93,11 @@ The last group is wrong on purpose."
         list: List::new(
             "forming",
             "crates/replay_forming_predictions/stdin",
+            KINDS,
             &made,
             FIELDS,
         ),
-        rng: Rng::new(SEED),
+        rng: Rng::new(seed),
         plane: Plane::new(0, 0, vec![]),
     };
     document_01(&mut maker);
@@ -102,7 +116,9 @@ The last group is wrong on purpose."
     refused_positions(&mut maker);
     refused_outputs(&mut maker);
     drawn(&mut maker);
-    wrong_on_purpose(&mut maker);
+    if edition.is_kept() {
+        wrong_on_purpose(&mut maker);
+    }
     maker.list
 }
 

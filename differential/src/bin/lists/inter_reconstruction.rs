@@ -12,7 +12,7 @@ use oracle::pmv::Direction;
 use oracle::rng::Rng;
 use oracle::sequence_extension::ChromaFormat;
 
-use crate::list::{ACCEPTED, List, ORIGINAL};
+use crate::list::{ACCEPTED, Edition, Kind, List, ORIGINAL, kind, refusing};
 use cases::{Planes, Prediction, Request};
 
 const SEED: u64 = 766;
@@ -51,6 +51,14 @@ const HUGE: usize = 100_000_000_000_000_000;
 /// A port that keeps 32 bits takes this for 0.
 const TWO_TO_32: usize = 1 << 32;
 
+const ANSWERS: &[u8] = &[0, 13, 14, 15, 16, 17, 18];
+
+const KINDS: &[Kind] = &[
+    kind("1", "(sets planes)"),
+    refusing("2", "predict_frame_macroblock_planes", 22, ANSWERS),
+    refusing("3", "predict_field_based_macroblock_planes", 30, ANSWERS),
+];
+
 const FIELDS: &str = "\
 Flags are 0 or 1. What is absent is a 0 with zeros behind it; PRESENT is 1 where it is there.
 CHROMA is 0 Yuv420, 1 Yuv422, 2 Yuv444; FIELD is the field that a vector reads, 0 Top, 1 Bottom: as
@@ -73,11 +81,12 @@ Y, then Cb, then Cr; or - where it is what it was before.
   predict_field_based_macroblock_planes: the same with the vectors of the top and of the bottom
   field, forward and backward.";
 
-pub fn list() -> List {
+pub fn list(edition: Edition) -> List {
+    let seed = edition.seed(SEED);
     let made = format!(
         "Answers of two calls of src/inter_reconstruction.rs
 ({ORIGINAL},
-release build) to inputs drawn by splitmix64 from the seed {SEED}.
+release build) to inputs drawn by splitmix64 from the seed {seed}.
 The original refuses with values of InterError: their numbers 15, 16 and 17 are document 01's, the
 scope paper's. The original returns three new vectors. Document 01's alone are the number 13 for a
 column or a row over 1023; the number 18 for an output that is not as long as the three together;
@@ -91,10 +100,11 @@ The last group is wrong on purpose."
         list: List::new(
             "macroblocks",
             "crates/replay_inter_reconstruction/stdin",
+            KINDS,
             &made,
             FIELDS,
         ),
-        rng: Rng::new(SEED),
+        rng: Rng::new(seed),
         planes: REFERENCES.map(|reference| Planes {
             reference,
             y: sides(0, 0),
@@ -124,7 +134,9 @@ The last group is wrong on purpose."
     refused_planes(&mut maker);
     orders(&mut maker);
     orders_of_two(&mut maker);
-    wrong_on_purpose(&mut maker);
+    if edition.is_kept() {
+        wrong_on_purpose(&mut maker);
+    }
     maker.list
 }
 

@@ -23,12 +23,68 @@ One case a line, its fields separated by one blank; lines that start with # are 
 Byte strings are lower-case hexadecimal, two digits a byte, and - is the empty one.
 Numbers are decimal, with a minus if negative.";
 
-/// A fixed list of cases, each with the original's answer.
+/// Which list of a layer is made.
+#[derive(Clone, Copy)]
+pub enum Edition {
+    /// The one that is kept in the repository. Its last group is wrong on purpose.
+    Kept,
+    /// One that is drawn from another seed, in which nothing is wrong.
+    Drawn(u64),
+}
+
+impl Edition {
+    /// What it is drawn from; `kept` is the seed of the list that is kept.
+    pub fn seed(self, kept: u64) -> u64 {
+        match self {
+            Self::Kept => kept,
+            Self::Drawn(seed) => seed,
+        }
+    }
+
+    pub fn is_kept(self) -> bool {
+        matches!(self, Self::Kept)
+    }
+}
+
+/// A kind of line.
+pub struct Kind {
+    /// Its first field.
+    pub number: &'static str,
+    /// What it asks.
+    pub call: &'static str,
+    /// Where the call may be refused: the field that has the answer, and the answers that it can
+    /// have, each of which a list has to have.
+    pub answer: Option<(usize, &'static [u8])>,
+}
+
+pub const fn kind(number: &'static str, call: &'static str) -> Kind {
+    Kind {
+        number,
+        call,
+        answer: None,
+    }
+}
+
+pub const fn refusing(
+    number: &'static str,
+    call: &'static str,
+    field: usize,
+    answers: &'static [u8],
+) -> Kind {
+    Kind {
+        number,
+        call,
+        answer: Some((field, answers)),
+    }
+}
+
+/// A list of cases, each with the original's answer.
 pub struct List {
     /// What the list is about, in a word.
     pub name: &'static str,
     /// The file it is kept in, below the root of the repository.
     pub place: &'static str,
+    pub kinds: &'static [Kind],
     /// How it was made, in a few plain lines.
     pub made: String,
     pub text: String,
@@ -38,10 +94,17 @@ pub struct List {
 impl List {
     /// A list without cases. Its text opens with `made` and with `fields`, the meaning of
     /// the fields.
-    pub fn new(name: &'static str, place: &'static str, made: &str, fields: &str) -> Self {
+    pub fn new(
+        name: &'static str,
+        place: &'static str,
+        kinds: &'static [Kind],
+        made: &str,
+        fields: &str,
+    ) -> Self {
         let mut list = Self {
             name,
             place,
+            kinds,
             made: made.to_owned(),
             text: String::new(),
             cases: 0,

@@ -1,22 +1,27 @@
 //! Makes the fixed lists of the original's answers that the replay programs read, or
-//! checks that the ones in the repository are what is made today.
+//! checks that the ones in the repository are what is made today; or draws other lists, and sees
+//! that the programs agree with these.
 
 mod combine_predictions;
 mod forming_predictions;
 mod inter_reconstruction;
 mod list;
 mod pmv;
+mod replay;
 
 use std::env;
+use std::ffi::OsString;
 use std::fs;
 use std::io;
 use std::path::{Path, PathBuf};
 use std::process::ExitCode;
+use std::str::FromStr;
 
-use list::List;
+use list::{Edition, List};
+use replay::Replay;
 
 /// A maker for each layer. A new layer adds its module above and a line here.
-const MAKERS: &[fn() -> List] = &[
+const MAKERS: &[fn(Edition) -> List] = &[
     combine_predictions::list,
     forming_predictions::list,
     pmv::list,
@@ -25,12 +30,24 @@ const MAKERS: &[fn() -> List] = &[
 
 const USAGE: &str = "\
 usage: lists [--check] [--root DIR]
+       lists --replay DIR [--seed N] [--rounds N]
   writes every list to its place below DIR, the repository's root if not given
-  --check  writes nothing; compares what is there with what is made today";
+  --check   writes nothing; compares what is there with what is made today
+  --replay  writes nothing; draws lists, and gives them to the replay programs in DIR, which have to
+            agree with all of it. Prints how many cases each call had, by its answers; none may be
+            without a case
+  --seed    what these lists are drawn from; 771 if not given
+  --rounds  how many are drawn for each program; 100 if not given";
+
+const SEED: u64 = 771;
+const ROUNDS: u64 = 100;
 
 struct Options {
     check: bool,
     root: PathBuf,
+    replay: Option<PathBuf>,
+    seed: u64,
+    rounds: u64,
 }
 
 fn main() -> ExitCode {
@@ -48,12 +65,22 @@ fn options() -> Result<Options, String> {
     let mut options = Options {
         check: false,
         root: repository(),
+        replay: None,
+        seed: SEED,
+        rounds: ROUNDS,
+    };
+    let number = |argument: Option<OsString>| {
+        let text = argument.and_then(|argument| argument.into_string().ok());
+        text.and_then(|text| u64::from_str(&text).ok()).ok_or(USAGE)
     };
     let mut arguments = env::args_os().skip(1);
     while let Some(argument) = arguments.next() {
         match argument.to_str() {
             Some("--check") => options.check = true,
             Some("--root") => options.root = arguments.next().ok_or(USAGE)?.into(),
+            Some("--replay") => options.replay = Some(arguments.next().ok_or(USAGE)?.into()),
+            Some("--seed") => options.seed = number(arguments.next())?,
+            Some("--rounds") => options.rounds = number(arguments.next())?,
             _ => return Err(USAGE.to_owned()),
         }
     }
@@ -73,9 +100,12 @@ fn run(options: &Options) -> Result<bool, String> {
     if cfg!(debug_assertions) {
         return Err("the answers are those of the release build: run with --release".to_owned());
     }
+    if let Some(programs) = &options.replay {
+        return replayed(options, programs);
+    }
     let mut good = true;
     for make in MAKERS {
-        let list = make();
+        let list = make(Edition::Kept);
         println!("{}: {}", list.name, list.place);
         for line in list.made.lines() {
             println!("    {line}");
@@ -90,6 +120,30 @@ fn run(options: &Options) -> Result<bool, String> {
             write(&place, &list.text)?;
             println!("    written");
         }
+    }
+    Ok(good)
+}
+
+/// Whether all programs agree with what is drawn, and every answer was met.
+fn replayed(options: &Options, programs: &Path) -> Result<bool, String> {
+    let replay = Replay {
+        programs: programs.to_owned(),
+        seed: options.seed,
+        rounds: options.rounds,
+        kept: options.root.join("build/disagreement.txt"),
+    };
+    let mut good = true;
+    for (place, make) in (0..).zip(MAKERS) {
+        match replay.layer(*make, place) {
+            Ok(complete) => good &= complete,
+            Err(disagreement) => {
+                println!("{disagreement}");
+                return Ok(false);
+            }
+        }
+    }
+    if !good {
+        println!("a call or an answer was met by no case");
     }
     Ok(good)
 }

@@ -15,7 +15,7 @@ use oracle::rng::Rng;
 use oracle::sequence_extension::ChromaFormat;
 use oracle::vectors::{CODES, Coded, Mode, Vector};
 
-use crate::list::{ACCEPTED, List, ORIGINAL};
+use crate::list::{ACCEPTED, Edition, Kind, List, ORIGINAL, kind, refusing};
 use cases::{
     Answer, ChromaScaling, Decoding, Delta, Fresh, GetAndSet, Lent, Limits, Place, Reconstruction,
     Reset, SpatialReset, Update, VectorReconstruction, number,
@@ -113,6 +113,30 @@ const REFUSALS: RangeInclusive<u8> = 1..=6;
 /// Instead of a reach: all of i32.
 const ANY: i32 = i32::MAX;
 
+const OF_A_COMPONENT: &[u8] = &[0, 1, 2, 3, 4, 5, 6];
+const OF_AN_UPDATE: &[u8] = &[0, 7, 8, 9, 10, 11, 12];
+
+/// A call on the lent record has the number of the call by value, and ten.
+const KINDS: &[Kind] = &[
+    refusing("1", "compute_delta", 5, &[0, 1, 2, 3, 4]),
+    refusing("2", "vector_range", 2, &[0, 1]),
+    refusing("3", "reconstruct_component", 9, OF_A_COMPONENT),
+    refusing("4", "decoded_motion_vector", 16, OF_A_COMPONENT),
+    refusing("5", "reconstructed_motion_vector", 21, OF_A_COMPONENT),
+    kind("6", "scale_chroma"),
+    refusing("7", "updated_predictors", 16, OF_AN_UPDATE),
+    kind("8", "spatial_temporal_reset_applied"),
+    kind("9", "Pmv::with, Pmv::predictor"),
+    kind("10", "Pmv::cleared"),
+    kind("11", "Pmv::new"),
+    refusing("14", "decode_motion_vector, lent", 16, OF_A_COMPONENT),
+    refusing("15", "reconstruct_motion_vector, lent", 21, OF_A_COMPONENT),
+    refusing("17", "update_predictors, lent", 16, OF_AN_UPDATE),
+    kind("18", "apply_spatial_temporal_reset, lent"),
+    kind("19", "Pmv::set, Pmv::get, lent"),
+    kind("20", "Pmv::reset, lent"),
+];
+
 const FIELDS: &str = "\
 Flags are 0 or 1. What is absent is a 0 with a 0 behind it; PRESENT is 1 where it is there.
 Kinds are counted from 0 in the order of the original's enums. R: First, Second. S: Forward,
@@ -149,11 +173,12 @@ it, and is 0 where refused.
   4, 5, 7, 8, 9 and 10 with one record that is lent from line to line. It is new before the first of
   these lines; P0 to P7 are what it is then.";
 
-pub fn list() -> List {
+pub fn list(edition: Edition) -> List {
+    let seed = edition.seed(SEED);
     let made = format!(
         "Answers of the calls of src/pmv.rs
 ({ORIGINAL},
-release build) to inputs drawn by splitmix64 from the seed {SEED}.
+release build) to inputs drawn by splitmix64 from the seed {seed}.
 The original refuses with texts: their numbers 1 and 3 to 12 are document 01's, the scope
 paper's. So is all of 2, for a code outside -16..16, after 1 and before the rest: the original
 takes such codes and is not asked about them. It has bytes for the codes of a vector. Where one
@@ -162,8 +187,8 @@ first, and what it accepts is stored. Residuals are bytes, though some of its ca
 The last group is wrong on purpose."
     );
     let mut maker = Maker {
-        list: List::new("vectors", "crates/replay_pmv/stdin", &made, FIELDS),
-        rng: Rng::new(SEED),
+        list: List::new("vectors", "crates/replay_pmv/stdin", KINDS, &made, FIELDS),
+        rng: Rng::new(seed),
         record: Fresh::ask().after,
     };
     document_01(&mut maker);
@@ -190,7 +215,9 @@ The last group is wrong on purpose."
     lent_vectors(&mut maker);
     lent_updates(&mut maker);
     lent_runs(&mut maker);
-    wrong_on_purpose(&mut maker);
+    if edition.is_kept() {
+        wrong_on_purpose(&mut maker);
+    }
     maker.list
 }
 
