@@ -37,6 +37,13 @@ static void print_answer(uint32_t refusal)
     }
 }
 
+static void print_titled_answer(const char *title, uint32_t refusal)
+{
+    printf("  %s: ", title);
+    print_answer(refusal);
+    printf("\n");
+}
+
 static void print_row(const char *title, const uint8_t *samples, int count)
 {
     int i;
@@ -243,27 +250,21 @@ static void frame_macroblock(void)
 
     /* Half a sample to the right and half a row down: each sample is a mean of four, two from either field. */
     refusal = fozdrik_predict_frame_based(&geometry, 0, 1, &forward, NULL, &motion, out, sizeof out);
-    printf("  by (1, 1): ");
-    print_answer(refusal);
-    printf("\n");
+    print_titled_answer("by (1, 1)", refusal);
     print_row("row 0", out, 16);
     print_row("row 1", out + 16, 16);
     print_row("Cb, row 0", out + 256, 8);
 
     motion.forward_present = FOZDRIK_NO; /* the forward picture by the zero vector */
     refusal = fozdrik_predict_frame_based(&geometry, 0, 1, &forward, NULL, &motion, out, sizeof out);
-    printf("  without motion: ");
-    print_answer(refusal);
-    printf("\n");
+    print_titled_answer("without motion", refusal);
     print_row("row 0", out, 16);
     print_row("row 1", out + 16, 16);
 
     refusal = fozdrik_predict_frame_based(&geometry, 1024, 1, &forward, NULL, &motion, out, sizeof out);
-    printf("  in column 1024: ");
-    print_answer(refusal);
-    printf("; an output of 383 bytes: ");
-    print_answer(fozdrik_predict_frame_based(&geometry, 0, 1, &forward, NULL, &motion, out, sizeof out - 1));
-    printf("\n");
+    print_titled_answer("in column 1024", refusal);
+    refusal = fozdrik_predict_frame_based(&geometry, 0, 1, &forward, NULL, &motion, out, sizeof out - 1);
+    print_titled_answer("into 383 bytes", refusal);
 }
 
 static void field_macroblock(void)
@@ -311,9 +312,7 @@ static void field_macroblock(void)
     print_predictors(&pmv);
 
     refusal = fozdrik_predict_field_based(&geometry, 1, 0, &forward, &backward, &motion, out, sizeof out);
-    printf("  both directions: ");
-    print_answer(refusal);
-    printf("\n");
+    print_titled_answer("both directions", refusal);
     print_row("row 0, top field", out, 16);
     print_row("row 1, bottom field", out + 16, 16);
     print_row("row 2, top field", out + 32, 16);
@@ -332,9 +331,7 @@ static void field_macroblock(void)
 
     motion.backward_present = FOZDRIK_NO; /* what stands beside it then counts for nothing */
     refusal = fozdrik_predict_field_based(&geometry, 1, 0, &forward, NULL, &motion, out, sizeof out);
-    printf("  forward alone: ");
-    print_answer(refusal);
-    printf("\n");
+    print_titled_answer("forward alone", refusal);
     print_row("row 0, top field", out, 16);
     print_row("row 1, bottom field", out + 16, 16);
 }
