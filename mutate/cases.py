@@ -606,7 +606,7 @@ def macroblocks(repository):
     directions = lambda c: (c[14], c[17] if c[0] == "2" else c[21])
     halves = lambda c: (int(c[15]) % 4, int(c[16]) % 4)
     taken = selection([x for x in small if x[0] in "ceghj"], lambda x: (x[0], x[1][0], x[1][3], directions(x[1])), 1, 40)
-    taken += selection([x for x in small if x[0] == "f"], lambda x: (x[1][0], directions(x[1]), halves(x[1])), 1, 30)
+    taken += selection([x for x in small if x[0] in "dkp"], lambda x: (x[1][0], directions(x[1]), halves(x[1])), 1, 20)
     for n, (group, c, f, b) in enumerate(taken):
         fp, bp = named(f), named(b)
         refusal, dest, forward, backward, u, rest = call(c, f, b, f"(lengthsOf {fp})", f"(lengthsOf {bp})")
