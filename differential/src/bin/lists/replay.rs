@@ -2,7 +2,6 @@
 //! original has a counterpart of, by as many cases as are asked for.
 
 use std::collections::{BTreeMap, HashSet};
-use std::fs;
 use std::hash::{DefaultHasher, Hash, Hasher};
 use std::io::{self, IsTerminal, Write};
 use std::path::{Path, PathBuf};
@@ -47,7 +46,7 @@ impl Replay {
         for round in 1..=self.rounds {
             let list = make(Edition::Drawn(seeds.next_u64()));
             if let Some(what) = self.disagreement(&list)? {
-                self.keep(&list)?;
+                crate::write(&self.kept, &list.text)?;
                 let kept = self.kept.display();
                 return Err(format!(
                     "{}, list {round}: {what}; it is kept in {kept}",
@@ -106,11 +105,6 @@ impl Replay {
         }
         let first = said.lines().next().unwrap_or("nothing is said");
         Ok(Some(format!("{first}; {}", output.status)))
-    }
-
-    fn keep(&self, list: &List) -> Result<(), String> {
-        fs::write(&self.kept, &list.text)
-            .map_err(|cause| format!("cannot write {}: {cause}", self.kept.display()))
     }
 }
 
