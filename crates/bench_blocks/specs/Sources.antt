@@ -1,4 +1,4 @@
--- What is read, as a number. For the benchmark alone: nothing here is the standard's or document 01's.
+-- What is read, as a number. For the benchmark alone: nothing here is from the standard or from docs/SCOPE.md.
 use Prim.Native.Nat.{ℕ, zero, suc}
 use Rattle.forming_predictions.specs.Lines.{Lines, frame, field}
 use Rattle.forming_predictions.specs.declared.FieldParity.{FieldParity}

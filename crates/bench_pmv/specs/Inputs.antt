@@ -1,4 +1,4 @@
--- Inputs and answers as numbers. For the benchmark alone: nothing here is the standard's or document 01's.
+-- Inputs and answers as numbers. For the benchmark alone: nothing here is from the standard or from docs/SCOPE.md.
 use mathlib.Core.Bool.{Bool, not, cond}
 use mathlib.Core.List.{List, [], _∷_}
 use Prim.Native.Nat.{ℕ, _+_}

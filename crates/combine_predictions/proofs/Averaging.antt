@@ -8,7 +8,7 @@ use Rattle.combine_predictions.specs.declared.Averaged.the-variants.{Ref
 use Rattle.combine_predictions.specs.Refusals.{wrongLength, lengthsDiffer}
 use Rattle.combine_predictions.specs.Averaging.{mean2, averageRefusal, numberOf, answerOf}
 
--- document 01's form of the mean
+-- the mean as docs/SCOPE.md writes it
 pub mean2-is : (a b : ℕ) → mean2 a b ≡ (a + b + 1) / 2
 mean2-is a b = refl
 

@@ -1,5 +1,5 @@
 -- ISO/IEC 13818-2, 7.6.7.1 and 7.6.7.2: the mean of the forward and the backward prediction, of frames and of fields alike.
--- Document 01: refusal 19, then 18, by the three lengths, and the number of each answer. The standard refuses nothing.
+-- The scope (docs/SCOPE.md): refusal 19, then 18, by the three lengths, and the number of each answer. The standard refuses nothing.
 use mathlib.Core.Bool.{not}
 use mathlib.Core.List.{List}
 use Prim.Native.Nat.{ℕ, zero, suc, _+_}
@@ -23,7 +23,7 @@ averaged forward backward = tabulate (length forward) (λ (k : ℕ). mean2 (getD
 abbrev pub averageRefusal : ℕ → ℕ → ℕ → ℕ
 averageRefusal f b o = orElse (cause (not (eqb f b)) lengthsDiffer) (cause (not (eqb o f)) wrongLength)
 
--- document 01's number of each answer
+-- the scope's number of each answer
 abbrev pub numberOf : Averaged → ℕ
 numberOf Done = 0
 numberOf (Refused n) = n

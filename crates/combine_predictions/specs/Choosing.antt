@@ -1,5 +1,5 @@
 -- ISO/IEC 13818-2, 7.6.7.1 and 7.6.7.2: where there is one direction alone, its prediction is the macroblock's.
--- Document 01: the lent slice is handed back, and not a copy; Skipped gives the forward one.
+-- The scope (docs/SCOPE.md): the lent slice is handed back, and not a copy; Skipped gives the forward one.
 use mathlib.Core.List.{List}
 use Prim.Native.Nat.{ℕ}
 use denote.Ref.{RefT}

@@ -1,4 +1,4 @@
--- Document 01, "When a call refuses": a refusal is its number, and 0 stands for none. Nothing here is the standard's.
+-- The scope (docs/SCOPE.md, "When a call refuses"): a refusal is its number, and 0 stands for none. Nothing here is the standard's.
 use mathlib.Core.Bool.{Bool, true, false}
 use Prim.Native.Nat.{ℕ, zero, suc}
 
@@ -15,7 +15,7 @@ abbrev pub cause : Bool → ℕ → ℕ
 cause true n = n
 cause false n = 0
 
--- the first refusal, or else the second: document 01's order is the order of such a chain
+-- the first refusal, or else the second: the scope's order is the order of such a chain
 abbrev pub orElse : ℕ → ℕ → ℕ
 orElse zero m = m
 orElse (suc n) m = suc n

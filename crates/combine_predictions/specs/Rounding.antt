@@ -1,4 +1,4 @@
--- ISO/IEC 13818-2, 4.1: the standard's operator //. Nothing here is document 01's, which writes its cases out.
+-- ISO/IEC 13818-2, 4.1: the standard's operator //. Nothing here is the scope's (docs/SCOPE.md), which writes each mean out.
 use Prim.Native.Nat.{ℕ, _+_, _/_}
 
 infixl 7 _//_

@@ -1,5 +1,5 @@
--- Demand 3: nobody who chooses picture 0 and the vectors can exceed the drift figure. Document 01, "The drift figure", has the hypotheses and
--- the scale. Nothing here is the standard's.
+-- Demand 3: nobody who chooses picture 0 and the vectors can exceed the drift figure. docs/SCOPE.md, "The drift figure", has the hypotheses
+-- and the scale. Nothing here is the standard's.
 use mathlib.Core.Path.{_≡_}
 use mathlib.Core.List.{List}
 use mathlib.Core.Option.{Option, none, some}

@@ -1,5 +1,5 @@
--- What must be believed of the drift figure: document 01, "The drift figure", over the definitions that the promises of prediction and placing
--- speak of.
+-- What must be believed of the drift figure: docs/SCOPE.md, "The drift figure", over the definitions that the promises of prediction and
+-- placing speak of.
 pub mod Steps
 pub mod Unrounded
 pub mod Drift

@@ -1,5 +1,6 @@
--- Document 01, "The drift figure": a list of steps on numbered pictures of one geometry, by the calls that predict and place. A run is made of the
--- definitions that the promises of these calls speak of, and of nothing else: what these have of the standard, 7.6.3.5 to 7.6.7, is all of it here.
+-- The scope (docs/SCOPE.md, "The drift figure"): a list of steps on numbered pictures of one geometry, by the calls that predict and place.
+-- A run is made of the definitions that the promises of these calls speak of, and of nothing else: what these have of the standard, 7.6.3.5
+-- to 7.6.7, is all of it here.
 use mathlib.Core.Bool.{Bool, true, false, cond}
 use mathlib.Core.List.{List, [], _∷_}
 use mathlib.Core.Option.{Option, none, some}

@@ -1,7 +1,7 @@
--- Document 01, "The drift figure": the same steps with every mean exact. Unrounded pictures are fed the geometry and the steps alone, never an
--- answer of a call. A sample of picture n is counted in units, 8 to the power n of them to a grey step: at most four samples and then two
--- directions are averaged for each picture, so that all stays whole. Where is read, and placed, is by the definitions of the calls; the
--- arithmetic is document 01's and not the standard's.
+-- The scope (docs/SCOPE.md, "The drift figure"): the same steps with every mean exact. Unrounded pictures are fed the geometry and the
+-- steps alone, never an answer of a call. A sample of picture n is counted in units, 8 to the power n of them to a grey step: at most four
+-- samples and then two directions are averaged for each picture, so that all stays whole. Where is read, and placed, is by the definitions
+-- of the calls; the arithmetic is the scope's and not the standard's.
 use mathlib.Core.List.{List, [], _∷_, map}
 use mathlib.Core.Option.{Option, none, some}
 use Prim.Native.Nat.{ℕ, _+_, _-_, _*_, _^_}

@@ -12,7 +12,7 @@ use Rattle.combine_predictions.specs.Averaging.{mean2, averaged}
 use Rattle.forming_predictions.specs.Means.{mean4}
 use Rattle.forming_predictions.specs.inner.Views.{twoOf, fourOf, RowFits}
 
--- document 01's form of the mean, and that it is a sample
+-- the mean as docs/SCOPE.md writes it, and that it is a sample
 pub mean4-is : (a b c d : ℕ) → mean4 a b c d ≡ (a + b + c + d + 2) / 4
 mean4-is a b c d = refl
 

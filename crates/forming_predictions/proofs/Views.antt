@@ -1,4 +1,4 @@
--- Laws of views: what lies in a plane, and that the view of a frame or field reads as document 01 says.
+-- Laws of views: what lies in a plane, and that the view of a frame or field reads as docs/SCOPE.md says.
 -- Assumes nothing.
 use mathlib.Core.Path.{_≡_, refl, ap, sym, _∙_}
 use mathlib.Core.Bool.{_||_, cond}

@@ -1,4 +1,4 @@
--- The answer of a call that writes a block: document 01's number of each case, 0 for acceptance. Nothing here is the standard's.
+-- The answer of a call that writes a block: the number of each case, by docs/SCOPE.md, 0 for acceptance. Nothing here is the standard's.
 use Prim.Native.Nat.{ℕ, zero, suc}
 use Rattle.forming_predictions.specs.declared.Predicted.{Predicted}
 use Rattle.forming_predictions.specs.declared.Predicted.the-variants.{Done, Refused}

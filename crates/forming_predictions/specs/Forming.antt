@@ -1,6 +1,6 @@
 -- ISO/IEC 13818-2, 7.6.4: a predicted sample is formed of one, two or four samples that a motion vector points to. `read` is asked for
 -- coordinates, inside the plane or not.
--- Document 01: a block's samples stand row after row.
+-- The scope (docs/SCOPE.md): a block's samples stand row after row.
 use mathlib.Core.Bool.{Bool, true, false}
 use mathlib.Core.List.{List}
 use Prim.Native.Nat.{ℕ, _*_, _/_, _%_}

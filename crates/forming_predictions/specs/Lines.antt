@@ -1,6 +1,6 @@
 -- Which sample of a plane a coordinate reads. ISO/IEC 13818-2, 7.6.4, reads samples of a reference frame or of a reference field, whose
 -- lines are every second row of the frame; it allows no read outside. No place depends on a sample: other arithmetics read at the same places.
--- Document 01: clamping, to the plane or to the field's lines; what a plane without samples and a field without lines read.
+-- The scope (docs/SCOPE.md): clamping, to the plane or to the field's lines; what a plane without samples and a field without lines read.
 use mathlib.Core.Bool.{_||_, cond}
 use mathlib.Core.List.{List}
 use Prim.Native.Nat.{ℕ, _+_, _-_, _*_, _/_, min}

@@ -1,5 +1,5 @@
--- Document 01, "When a call refuses": what the calls of this layer refuse, from sides, lengths and positions alone. 14 comes before 18. The
--- limits are those of its section on forming_predictions.rs. Nothing here is the standard's.
+-- The scope (docs/SCOPE.md, "When a call refuses"): what the calls of this layer refuse, from sides, lengths and positions alone. 14 comes
+-- before 18. The limits are those of its section "The domain". Nothing here is the standard's.
 use mathlib.Core.Bool.{Bool, not, _&&_}
 use Prim.Native.Nat.{ℕ, _*_}
 use lib.Dec.{leb, eqb}

@@ -1,4 +1,4 @@
--- The answer of a call that gives one sample: the number and the sample of each case, as document 01 has them. Number 0 is acceptance.
+-- The answer of a call that gives one sample: the number and the sample of each case, as docs/SCOPE.md has them. Number 0 is acceptance.
 -- Nothing here is the standard's.
 use mathlib.Core.Option.{Option, none, some}
 use Prim.Native.Nat.{ℕ, zero, suc}

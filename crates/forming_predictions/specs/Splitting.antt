@@ -1,5 +1,5 @@
 -- ISO/IEC 13818-2, 7.6.4: a component of a motion vector, which counts half samples, is split into whole samples and a half.
--- Nothing here is document 01's: its "floor of half" is the standard's DIV.
+-- Nothing here is the scope's (docs/SCOPE.md): its "floor of half" is the standard's DIV.
 use mathlib.Core.Path.{_≡_}
 use mathlib.Core.Bool.{Bool, true, false, not}
 use Prim.Native.Nat.{_/_}

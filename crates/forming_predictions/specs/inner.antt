@@ -1,3 +1,3 @@
--- What private contracts speak of. Nothing of it need be believed: the public promises are proved from it. Nothing here is the standard's or
--- document 01's.
+-- What private contracts speak of. Nothing of it need be believed: the public promises are proved from it. Nothing here is from the
+-- standard or from docs/SCOPE.md.
 pub mod Views

@@ -1,5 +1,5 @@
--- Document 01: the C entry points. Kinds and flags cross as numbers, counted from 0 in the order of the Rust's enums, no and yes as 0 and 1; any
--- other number that is read is refused before all else. What is absent has a 0 beside it, and its other numbers are not read.
+-- The C entry points, by docs/SCOPE.md. Kinds and flags cross as numbers, counted from 0 in the order of the Rust's enums, no and yes as 0
+-- and 1; any other number that is read is refused before all else. What is absent has a 0 beside it, and its other numbers are not read.
 -- Nothing here is the standard's, whose codes are mostly others.
 use mathlib.Core.Bool.{Bool, not, _&&_, _||_, cond}
 use mathlib.Core.List.{List}

@@ -1,6 +1,6 @@
 -- The buffers of the C entry points: 32-bit numbers in two's complement, each as four bytes, the lowest first. proofs/ReadBack.antt shows that
 -- the predictors are read back out of their bytes, and the bytes out of the predictors.
--- Document 01 leaves the layout to docs/: docs/C-INTERFACE.md, "Layouts", has it in words. Nothing here is the standard's.
+-- docs/SCOPE.md leaves the layout to docs/C-INTERFACE.md, which has it in words ("Layouts"). Nothing here is the standard's.
 use mathlib.Core.Bool.{cond}
 use mathlib.Core.List.{List, [], _∷_, _++_}
 use Prim.Native.Nat.{ℕ, suc, _+_, _-_, _*_, _/_, _%_}

@@ -1,4 +1,4 @@
--- The answer of a prediction call: document 01's number of each case, 0 for acceptance. Nothing here is the standard's.
+-- The answer of a prediction call: the number of each case, by docs/SCOPE.md, 0 for acceptance. Nothing here is the standard's.
 use Prim.Native.Nat.{ℕ, zero, suc}
 use Rattle.inter_reconstruction.specs.declared.macroblock.MacroblockPrediction.{MacroblockPrediction}
 use Rattle.inter_reconstruction.specs.declared.macroblock.MacroblockPrediction.the-variants.{Done, Refused}

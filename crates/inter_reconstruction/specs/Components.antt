@@ -1,5 +1,6 @@
 -- ISO/IEC 13818-2, 6.1.1 and 6.1.3: a picture's three components, and how many of a picture's columns and lines each has.
--- Document 01 gives the same sides of a macroblock's parts. That its bytes are one buffer, luminance, then Cb, then Cr, is a decision of this port.
+-- docs/SCOPE.md gives the same sides of a macroblock's parts. That its bytes are one buffer, luminance, then Cb, then Cr, is a decision of
+-- this port.
 use Prim.Native.Nat.{ℕ, _+_, _*_, _/_}
 use Rattle.pmv.specs.declared.kinds.ChromaFormat.{ChromaFormat}
 use Rattle.pmv.specs.declared.kinds.ChromaFormat.the-variants.{Yuv420, Yuv422, Yuv444}

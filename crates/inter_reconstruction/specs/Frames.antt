@@ -1,5 +1,5 @@
 -- A frame, by component: the sides of its planes, and what is read of them.
--- Document 01: planes carry their own sides, and these say what is read. Nothing here is the standard's.
+-- The scope (docs/SCOPE.md): planes carry their own sides, and these say what is read. Nothing here is the standard's.
 use mathlib.Core.Bool.{Bool, true, false}
 use mathlib.Core.List.{List}
 use Prim.Native.Nat.{ℕ}

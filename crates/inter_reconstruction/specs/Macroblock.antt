@@ -1,5 +1,6 @@
 -- ISO/IEC 13818-2, 7.6.4 to 7.6.7: the predicted samples of a macroblock of a frame picture, over the arithmetic of means.
--- Document 01: a macroblock past the picture's edge is formed too, by clamping; field motion as two interleaved blocks, which is proved to be this.
+-- The scope (docs/SCOPE.md): a macroblock past the picture's edge is formed too, by clamping; field motion as two interleaved blocks, which
+-- is proved to be this.
 use mathlib.Core.List.{List, _++_}
 use Prim.Native.Nat.{ℕ, _+_, _*_, _/_, _%_}
 use lib.IntN.{pos}
@@ -25,8 +26,8 @@ fieldSample m read u x line =
     formed m (read (field (u .«reference_field»))) (pos x) (pos line) (u .vector .horizontal) (u .vector .vertical)
 
 -- one direction's prediction of the sample at column x and row y of a plane. Row y of a frame is line y / 2 of the field that y's parity names,
--- whose vector it goes by; which field is read is that vector's own choice. proofs/Rectangles.antt (interleaved-is) shows document 01's form of
--- it: two field blocks from line base / 2 on, interleaved.
+-- whose vector it goes by; which field is read is that vector's own choice. proofs/Rectangles.antt (interleaved-is) shows the scope's form
+-- of it: two field blocks from line base / 2 on, interleaved.
 unfoldable pub directionSample : Means → PlaneReading → DirectionMotion → ℕ → ℕ → ℕ
 directionSample m read (Frame v) x y = formed m (read frame) (pos x) (pos y) (v .horizontal) (v .vertical)
 directionSample m read (Field p) x y = fieldSample m read (fieldVectorOf p (y % 2)) x (y / 2)

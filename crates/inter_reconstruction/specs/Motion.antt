@@ -1,5 +1,6 @@
 -- ISO/IEC 13818-2, 7.6.3.5, 7.6.3.7 and 7.6.5: which directions a macroblock is predicted from, and by which vectors.
--- Document 01: without motion in either direction, zero vectors from the forward reference, each field from its own parity, in every picture.
+-- The scope (docs/SCOPE.md): without motion in either direction, zero vectors from the forward reference, each field from its own parity,
+-- in every picture.
 use mathlib.Core.Bool.{Bool}
 use Prim.Native.Nat.{ℕ, zero, suc}
 use lib.IntN.{pos}

@@ -1,5 +1,5 @@
--- Document 01, "Placing a macroblock": a macroblock's bytes go to the planes of a picture, each to the place that prediction forms it for, and
--- nothing else is written. On lists of numbers: a sample need not be a byte. Nothing here is the standard's.
+-- The scope (docs/SCOPE.md, "Placing a macroblock"): a macroblock's bytes go to the planes of a picture, each to the place that prediction
+-- forms it for, and nothing else is written. On lists of numbers: a sample need not be a byte. Nothing here is the standard's.
 use mathlib.Core.Bool.{Bool, not, _&&_}
 use mathlib.Core.List.{List, [], _∷_}
 use Prim.Native.Nat.{ℕ, zero, suc, _+_, _*_, _/_, _%_}

@@ -1,6 +1,6 @@
--- Document 01, "When a call refuses": what the prediction of a macroblock refuses, from numbers, sides and lengths alone, never from a
--- sample. 13; 18; 16; 17; 15 of the forward reference, then of the backward one; 14 over the references that are used. Nothing here is the
--- standard's.
+-- The scope (docs/SCOPE.md, "When a call refuses"): what the prediction of a macroblock refuses, from numbers, sides and lengths alone,
+-- never from a sample. 13; 18; 16; 17; 15 of the forward reference, then of the backward one; 14 over the references that are used. Nothing
+-- here is the standard's.
 use mathlib.Core.Bool.{Bool, not, _&&_, _||_}
 use Prim.Native.Nat.{ℕ}
 use lib.Dec.{eqb, ltb}

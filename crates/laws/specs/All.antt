@@ -1,4 +1,4 @@
--- A property of every element of a list. Plain mathematics: nothing here is the standard's or document 01's.
+-- A property of every element of a list. Plain mathematics: nothing here is from the standard or from docs/SCOPE.md.
 use mathlib.Core.List.{List, [], _∷_}
 
 abbrev pub All : {A : Type 0} → (A → Type 0) → List A → Type 0

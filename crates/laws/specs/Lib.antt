@@ -1,3 +1,3 @@
--- Definitions of plain mathematics that contracts and claims of other crates cite. Nothing here is the standard's or document 01's.
+-- Definitions of plain mathematics that contracts and claims of other crates cite. Nothing here is from the standard or from docs/SCOPE.md.
 pub mod Tabulate
 pub mod All

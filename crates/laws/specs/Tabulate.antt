@@ -1,4 +1,4 @@
--- A list given by a rule. Plain mathematics: nothing here is the standard's or document 01's.
+-- A list given by a rule. Plain mathematics: nothing here is from the standard or from docs/SCOPE.md.
 use mathlib.Core.List.{List, [], _∷_}
 use Prim.Native.Nat.{ℕ, zero, suc}
 

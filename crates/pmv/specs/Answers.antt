@@ -1,5 +1,5 @@
--- The answers of this layer's calls: document 01's number of each case, 0 for acceptance, and the values of an accepted one. `XAnswer` is the
--- answer with a number, and with these values where the number is 0. Nothing here is the standard's.
+-- The answers of this layer's calls: the number of each case, by docs/SCOPE.md, 0 for acceptance, and the values of an accepted one.
+-- `XAnswer` is the answer with a number, and with these values where the number is 0. Nothing here is the standard's.
 use mathlib.Core.Option.{Option, none, some}
 use Prim.Native.Nat.{ℕ, zero, suc}
 use lib.IntN.{ℤ}

@@ -1,5 +1,5 @@
--- ISO/IEC 13818-2, 7.6.3.7: the motion vector of the chrominance, from the luminance vector. Nothing here is document 01's: that
--- `scale_chroma` truncates is the standard's / (4.1).
+-- ISO/IEC 13818-2, 7.6.3.7: the motion vector of the chrominance, from the luminance vector. Nothing here is the scope's
+-- (docs/SCOPE.md): that `scale_chroma` truncates is the standard's / (4.1).
 use Prim.Native.Nat.{suc, _/_}
 use lib.IntN.{ℤ, pos, negsuc, negℤ}
 use Rattle.pmv.specs.declared.kinds.ChromaFormat.{ChromaFormat}

@@ -1,8 +1,8 @@
 -- ISO/IEC 13818-2, 7.6.3.1, second part: from delta and the predictor PMV[r][s][t] to the vector's component and the new predictor. Delta is
 -- a parameter here: whoever reads it from a stream in another way has the same component of it. proofs/Facts.antt has what follows: an
 -- accepted vector is in range and equals the prediction plus delta but for a multiple of range, and when 6 is given.
--- Document 01: refusals 5 and 6, of what 7.6.3.1 only demands of a stream; one wrap and no remainder, of a sum that is the mathematical one for
--- every prior; the new predictor is not tested.
+-- The scope (docs/SCOPE.md): refusals 5 and 6, of what 7.6.3.1 only demands of a stream; one wrap and no remainder, of a sum that is the
+-- mathematical one for every prior; the new predictor is not tested.
 use mathlib.Core.Bool.{Bool, not, _&&_, cond}
 use Prim.Native.Nat.{ℕ, _*_}
 use lib.IntN.{ℤ, pos, negℤ, _+ℤ_, _-ℤ_, _*ℤ_}

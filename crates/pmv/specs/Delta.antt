@@ -1,5 +1,5 @@
 -- ISO/IEC 13818-2, 7.6.3.1, first part: from f_code, motion_code and motion_residual to f and delta, over whole numbers.
--- Document 01: refusals 1 to 4 and their order; codes are -16 to 16; a residual is any byte, whatever the f_code.
+-- The scope (docs/SCOPE.md): refusals 1 to 4 and their order; codes are -16 to 16; a residual is any byte, whatever the f_code.
 use mathlib.Core.Bool.{Bool, true, false, not, _&&_, _||_, cond}
 use Prim.Native.Nat.{ℕ, _+_, _-_, _*_, _^_}
 use lib.Dec.{leb, eqb}
@@ -30,7 +30,7 @@ withSign code m = cond (ltZ code (pos 0)) (negℤ (pos m)) (pos m)
 unfoldable pub delta : ℕ → ℤ → ℕ → ℤ
 delta f code residual = cond (isPlain f code) code (withSign code (magnitude f code residual))
 
--- ---- what is refused, in document 01's order
+-- ---- what is refused, in the scope's order
 
 abbrev pub residualIn : MotionResidual → Bool
 residualIn Absent = false

@@ -1,4 +1,4 @@
--- The kinds that this layer's calls choose by. Document 01 counts them from 0 in the order of the Rust's enums where they cross to C, and
+-- The kinds that this layer's calls choose by. docs/SCOPE.md counts them from 0 in the order of the Rust's enums where they cross to C, and
 -- any other number has no meaning. `XNumber` is the number of a kind, `XFrom` the kind of a number, if there is one; proofs/Numbers.antt
 -- shows that each undoes the other. Component and PictureCodingType cross in no C call, and have no `XFrom`; parities and flags are only read,
 -- and have no `XNumber`.

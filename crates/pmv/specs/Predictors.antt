@@ -1,6 +1,6 @@
 -- ISO/IEC 13818-2, Table 7-7: the predictors PMV[r][s][t], where r is the first or second vector, s the direction and t the component; 7.6.3.3
 -- and 7.6.3.4, how they are copied and reset.
--- Document 01: they are one array of eight.
+-- The scope (docs/SCOPE.md): they are one array of eight.
 use mathlib.Core.List.{[], _∷_}
 use Prim.Native.Nat.{ℕ, _+_, _*_}
 use lib.IntN.{ℤ, pos}

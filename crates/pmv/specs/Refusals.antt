@@ -1,4 +1,4 @@
--- Document 01, "When a call refuses": the numbers of this layer. Nothing here is the standard's.
+-- The scope (docs/SCOPE.md, "When a call refuses"): the numbers of this layer. Nothing here is the standard's.
 use Prim.Native.Nat.{ℕ}
 
 -- f_code outside 1..9

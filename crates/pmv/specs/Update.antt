@@ -1,7 +1,7 @@
 -- ISO/IEC 13818-2, 7.6.3.3: what becomes of the predictors after a macroblock's vectors, by Table 7-10 for frame pictures and Table 7-11 for
 -- field pictures; and 7.7.5.1, the reset of a macroblock that is predicted spatially alone.
--- Document 01: what has no row is refused, 7, then 8, 9, 10, then 11 or 12; an absent type is refused, where the tables' footnotes assume one; the
--- outcomes have names, and numbers in the order of the Rust's enum.
+-- The scope (docs/SCOPE.md): what has no row is refused, 7, then 8, 9, 10, then 11 or 12; an absent type is refused, where the tables'
+-- footnotes assume one; the outcomes have names, and numbers in the order of the Rust's enum.
 use mathlib.Core.Bool.{Bool, true, false, not, _&&_, _||_, cond}
 use Prim.Native.Nat.{ℕ}
 use lib.Dec.{eqb}
@@ -71,7 +71,7 @@ intraOutcome true = IntraConcealmentCopyForwardFirst
 intraOutcome false = IntraResetAll
 
 -- a macroblock that is not intra: 8; 9 or 10; 11 or 12. The tables' footnote assumes frame-based or field-based motion where the type is
--- absent; that it is refused is document 01's
+-- absent; that it is refused is the scope's
 abbrev pub interRefusal : Bool → MotionType → Bool → Bool → ℕ
 interRefusal frame Absent f b = typeMissing
 interRefusal frame (Present t) f b = rowRefusal (rowsOf frame t) f b

@@ -1,6 +1,7 @@
 -- ISO/IEC 13818-2, 7.6.3.1: components and vectors against the predictors, which take the new values. A vector reads and stores
 -- PMV[r][s][1:0] alone. What is refused of a component is a parameter.
--- Document 01: the horizontal component is first, and stays stored where the vertical one is refused; `decode_motion_vector` never halves.
+-- The scope (docs/SCOPE.md): the horizontal component is first, and stays stored where the vertical one is refused; `decode_motion_vector`
+-- never halves.
 use mathlib.Core.Bool.{Bool}
 use Prim.Native.Nat.{ℕ}
 use lib.IntN.{ℤ}
@@ -28,7 +29,7 @@ use Rattle.pmv.specs.declared.vector.DecodedVector.{DecodedVector}
 abbrev pub Reading : Type 0
 Reading = ℕ → ℤ → MotionResidual → ℤ → Bool → ℕ
 
--- document 01's
+-- the scope's
 abbrev pub ported : Reading
 ported = componentRefusal
 

@@ -1,5 +1,5 @@
-//! The kinds of things that choose how a vector is reconstructed and what becomes of the predictors. Document 01 counts each from 0 in the
-//! order of its values; these are not the codes of the stream.
+//! The kinds of things that choose how a vector is reconstructed and what becomes of the predictors. docs/SCOPE.md counts each from 0 in
+//! the order of its values; these are not the codes of the stream.
 use forming_predictions::FieldParity;
 ghost use mathlib.Core.Path.{_≡_};
 ghost use Rattle.pmv.specs.Kinds.{componentNumber, directionNumber, directionFrom, indexNumber, indexFrom, formatNumber, formatFrom, structureNumber, structureFrom, typeNumber, typeFrom, codingNumber, chromaNumber, chromaFrom, parityFrom, flagFrom, indexKnown, indexOr, directionKnown, directionOr, formatKnown, formatOr, structureKnown, structureOr, typeKnown, typeOr, chromaKnown, chromaOr, parityKnown, parityOr, flagKnown, flagOr, isVertical, isFieldFormat, isFramePicture, isInterPicture};

@@ -570,8 +570,8 @@ fn uses_backward(s: Step) -> bool {
     backward.moves
 }
 
-/// What document 01's table refuses of a step, by its number, or 0: prediction, then placing. In pictures whose planes fit, no other number
-/// can occur.
+/// What the table of docs/SCOPE.md refuses of a step, by its number, or 0: prediction, then placing. In pictures whose planes fit, no other
+/// number can occur.
 fn refusal(s: Step) -> u64 {
     let forward = s.forward;
     let backward = s.backward;

@@ -1,5 +1,6 @@
--- Document 01's cases that are marked (T), of all layers, in its order and nearly in its words: the table at the end, to be held beside it.
--- proofs/Cases.antt proves the single claim that all of them hold, from the definitions (cases-hold), which are the standard's where it has some.
+-- The worked cases of docs/SCOPE.md, of all layers, in its order and nearly in its words: the table at the end, to be held beside it.
+-- proofs/Cases.antt proves the single claim that all of them hold, from the definitions (cases-hold), which are the standard's where it has
+-- some.
 use mathlib.Core.Path.{_≡_}
 use mathlib.Core.Bool.{Bool, true, false}
 use mathlib.Core.List.{List, [], _∷_, _++_}

@@ -1,2 +1,2 @@
--- Document 01's cases that are marked (T), of all layers.
+-- The worked cases of docs/SCOPE.md, of all layers.
 pub mod Cases

@@ -1,5 +1,5 @@
 -- A view of a plane's rows as lines: line 0 is row `first`, and lines are `step` rows apart. A frame and its fields are views, and so is
--- a block that was copied out of one. For private contracts alone: that a view reads as 7.6.4 and document 01 say is proved.
+-- a block that was copied out of one. For private contracts alone: that a view reads as 7.6.4 and docs/SCOPE.md say is proved.
 use mathlib.Core.Path.{_≡_}
 use mathlib.Core.Bool.{Bool, true, false, _||_, cond}
 use mathlib.Core.List.{List}

@@ -1,4 +1,4 @@
--- The byte that an update's answer leaves for the outcome: document 01, "any refusal leaves the latter unchanged".
+-- The byte that an update's answer leaves for the outcome, which a refusal leaves as it was (docs/SCOPE.md).
 use Prim.Native.Nat.{ℕ}
 use Rattle.pmv.specs.Update.{outcomeNumber}
 use Rattle.pmv.specs.declared.update.Updated.{Updated}

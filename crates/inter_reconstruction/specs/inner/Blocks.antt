@@ -1,5 +1,5 @@
 -- What the functions on blocks ask, and what they give. For private contracts alone.
--- Document 01: field motion as two blocks, each of half the rows, that are interleaved.
+-- The scope (docs/SCOPE.md): field motion as two blocks, each of half the rows, that are interleaved.
 use mathlib.Core.Path.{_≡_}
 use mathlib.Core.Bool.{true}
 use mathlib.Core.List.{List, _++_}

@@ -1,6 +1,7 @@
 -- The rows as the code has them: bytes of a constant table, what a byte stands for, and the two rows that are decided beside the table.
 -- proofs/Rows.antt has that all this agrees with the rule. For private contracts alone.
--- Document 01: one constant table of 64 outcomes, by picture, type, forward, backward and intra; concealment and an absent type beside it.
+-- The scope (docs/SCOPE.md): one constant table of 64 outcomes, here by picture, type, forward, backward and intra; concealment and an
+-- absent type beside it.
 use mathlib.Core.Bool.{Bool, true, false, not, _&&_, _||_, cond}
 use mathlib.Core.List.{List, [], _∷_}
 use Prim.Native.Nat.{ℕ, _+_, _*_, _/_, _%_}
