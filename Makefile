@@ -13,7 +13,7 @@
 # make picture         make docs/plate.png anew; needs python3
 # make demonstration   build the Rattle program that shows the three lower layers one by one, proved, and run it
 # make plot            draw docs/drift.svg anew, from what the program run_drift prints
-# make forms-check     see that the lines which docs/DECISIONS.md gives for document 01's forms have them
+# make forms-check     see that the lines which docs/DECISIONS.md gives for the scope's forms have them
 # make test            the gate: prove everything from nothing, try the must-fail edits, run the programs
 # make differential    build the Rust original, and compare the port with it: see that the lists in the repository are its
 #                      answers (make lists-check); draw other lists, and replay them by the Rattle programs, every public

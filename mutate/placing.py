@@ -1,5 +1,5 @@
-"""Placing a macroblock, by document 01's words: the Rust has no such call, and no list can have its answers. The definitions are held against
-this account (cases.py), and the code is, by a program that is made of it."""
+"""Placing a macroblock, by the words of docs/SCOPE.md: the Rust has no such call, and no list can have its answers. The definitions are held
+against this account (cases.py), and the code is, by a program that is made of it."""
 
 BYTES = {0: 384, 1: 512, 2: 768}  # of a macroblock, by its format: 4:2:0, 4:2:2, 4:4:4
 FORMATS = ["Yuv420", "Yuv422", "Yuv444"]

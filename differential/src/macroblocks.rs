@@ -1,5 +1,5 @@
-//! What the comparisons of macroblocks share: what is asked of the original, and document 01's
-//! numbers 13, 18 and 14, which the original does not have.
+//! What the comparisons of macroblocks share: what is asked of the original, and the
+//! numbers 13, 18 and 14 of the scope (docs/SCOPE.md), which the original does not have.
 
 use std::fmt::{self, Display};
 
@@ -29,7 +29,7 @@ impl Sides {
         self.width.checked_mul(self.height) == Some(self.length)
     }
 
-    /// Whether document 01 takes the plane.
+    /// Whether the scope takes the plane.
     pub fn in_domain(self) -> bool {
         self.has_its_length() && self.width.max(self.height) <= LARGEST_SIDE
     }
@@ -98,7 +98,7 @@ pub enum Motion {
 }
 
 impl Motion {
-    /// The directions that document 01 has used: it asks only these about 14.
+    /// The directions that are used by the scope's rule: it asks only these about 14.
     pub fn uses(self, direction: Direction) -> bool {
         let (forward, backward) = match self {
             Self::Frame(motion) => (motion.forward.is_some(), motion.backward.is_some()),
@@ -171,7 +171,7 @@ pub struct Question<'a> {
     pub motion: Motion,
     /// Of the output.
     pub length: usize,
-    /// Whether document 01 takes the planes of all references that are used.
+    /// Whether the scope takes the planes of all references that are used.
     pub in_domain: bool,
 }
 
@@ -209,7 +209,7 @@ impl Question<'_> {
         }
     }
 
-    /// What document 01 refuses before all that the original does.
+    /// What the scope refuses before all that the original does.
     pub fn refused_before(&self) -> Result<(), u8> {
         if self.column.max(self.row) > LAST_CELL {
             return Err(CELL_TOO_FAR);
@@ -220,7 +220,7 @@ impl Question<'_> {
         Ok(())
     }
 
-    /// What document 01 refuses after all that the original does.
+    /// What the scope refuses after all that the original does.
     pub fn refused_after(&self) -> Result<(), u8> {
         if self.in_domain {
             Ok(())

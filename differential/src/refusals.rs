@@ -1,5 +1,5 @@
-//! Document 01's numbers: for the original's refusals of vectors and updates, which are texts, and
-//! of macroblocks; and those that document 01 adds.
+//! The numbers of the scope (docs/SCOPE.md): for the original's refusals of vectors and updates,
+//! which are texts, and of macroblocks; and those that the scope adds.
 
 use crate::Error;
 use crate::inter_reconstruction::InterError;
@@ -10,7 +10,7 @@ pub const ACCEPTED: u8 = 0;
 pub const CODE_OUTSIDE: u8 = 2;
 /// Added: a column or a row over 1023.
 pub const CELL_TOO_FAR: u8 = 13;
-/// Added: planes that document 01 does not take. The original cannot have those of the wrong
+/// Added: planes that the scope does not take. The original cannot have those of the wrong
 /// length, and takes those with a large side.
 pub const OUTSIDE_DOMAIN: u8 = 14;
 /// Added: an output of the wrong length.
@@ -64,7 +64,7 @@ const NUMBERS: [(&str, u8); 12] = [
     ),
 ];
 
-/// The text of the test that document 01 says never fails.
+/// The text of the test that never fails.
 const NEVER: &str = "reconstruct_component: new PMV outside expected range";
 
 /// The number of a refusal, or why it has none.
@@ -77,7 +77,7 @@ pub fn number(error: Error) -> Result<u8, String> {
     }
     match NUMBERS.iter().find(|(known, _)| *known == text) {
         Some((_, number)) => Ok(*number),
-        None => Err(format!("document 01 has no number for: {text}")),
+        None => Err(format!("the scope has no number for: {text}")),
     }
 }
 
@@ -88,7 +88,7 @@ pub fn inter_number(error: InterError) -> Result<u8, String> {
         InterError::MissingForwardReference => Ok(16),
         InterError::MissingBackwardReference => Ok(17),
         InterError::UnsupportedPredictionMode | InterError::InvalidBlockIndex => {
-            Err(format!("document 01 has no number for: {error:?}"))
+            Err(format!("the scope has no number for: {error:?}"))
         }
     }
 }

@@ -1,5 +1,5 @@
-//! What the comparisons of vectors and of updates share: what is asked of the original, and document
-//! 01's number 2, which the original does not have.
+//! What the comparisons of vectors and of updates share: what is asked of the original, and the
+//! number 2 of the scope (docs/SCOPE.md), which the original does not have.
 
 use std::fmt::{self, Display};
 use std::ops::RangeInclusive;
@@ -14,10 +14,10 @@ use crate::pmv::{
 };
 use crate::refusals::{self, CODE_OUTSIDE};
 
-/// Document 01's codes.
+/// The scope's codes.
 pub const CODES: RangeInclusive<i32> = -16..=16;
 
-/// Document 01's number for a refusal of the original. Stops at one that has none.
+/// The scope's number for a refusal of the original. Stops at one that has none.
 pub fn refusal(error: Error) -> u8 {
     refusals::number(error).unwrap_or_else(|cause| panic!("{cause}"))
 }
@@ -31,7 +31,7 @@ pub struct Coded {
 }
 
 impl Coded {
-    /// Document 01's refusal 2: after 1, and before all that the original refuses else.
+    /// The scope's refusal 2: after 1, and before all that the original refuses else.
     pub fn within_codes(self) -> Result<(), u8> {
         if vector_range(self.f_code).is_ok() && !CODES.contains(&self.code) {
             return Err(CODE_OUTSIDE);
@@ -63,7 +63,7 @@ impl Display for Mode {
     }
 }
 
-/// The original's answer for a component. The refusal 2 is document 01's.
+/// The original's answer for a component. The refusal 2 is the scope's.
 pub fn component(
     coded: Coded,
     prior: i32,
@@ -105,15 +105,15 @@ impl Vector {
         }
         let mut original = before;
         let whole = (self.reconstruct(&mut original), original);
-        assert_eq!((answer, after), whole, "document 01 composes otherwise");
+        assert_eq!((answer, after), whole, "the scope composes otherwise");
         whole
     }
 
-    /// Both components, the predictors updated: the original's call. The codes are document 01's.
+    /// Both components, the predictors updated: the original's call. The codes are the scope's.
     fn reconstruct(self, pmv: &mut Pmv) -> Components {
         let Self { r, s, mode, .. } = self;
         let [horizontal, vertical] = [self.horizontal, self.vertical];
-        let byte = |code| i8::try_from(code).expect("document 01's codes are bytes");
+        let byte = |code| i8::try_from(code).expect("the scope's codes are bytes");
         let parsed = MotionVector {
             motion_code_horiz: byte(horizontal.code),
             motion_residual_horiz: horizontal.residual,
@@ -138,7 +138,7 @@ impl Vector {
         .map_err(refusal)
     }
 
-    /// The same for all codes, as document 01 composes it of the components.
+    /// The same for all codes, as the scope composes it of the components.
     fn compose(self, pmv: &mut Pmv) -> Components {
         let horizontal = self.store(pmv, self.horizontal, Component::Horizontal)?;
         let vertical = self.store(pmv, self.vertical, Component::Vertical)?;

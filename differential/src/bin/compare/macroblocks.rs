@@ -39,10 +39,10 @@ impl Macroblocks {
         }
     }
 
-    /// All cases: document 01's own, those at the limits, and `drawn` drawn ones.
+    /// All cases: the scope's own, those at the limits, and `drawn` drawn ones.
     pub fn compare(&mut self, drawn: u64) -> Comparison {
         self.run.start();
-        self.document_01()?;
+        self.scope_cases()?;
         self.causes()?;
         self.meaningless()?;
         self.unfit()?;
@@ -73,12 +73,12 @@ impl Macroblocks {
         })
     }
 
-    /// Compares a case of which document 01 gives the number.
+    /// Compares a case of which the scope gives the number.
     fn compare_for(&mut self, number: u8, scene: &mut Scene, case: &Case) -> Comparison {
         let answer = self.compare_one(scene, case)?;
         if answer != number {
             return Err(format!(
-                "case {}: both answer {answer}, and document 01 says {number}\n{case:#?}",
+                "case {}: both answer {answer}, and the scope says {number}\n{case:#?}",
                 self.run.cases()
             ));
         }
@@ -121,7 +121,7 @@ impl Macroblocks {
         ))
     }
 
-    /// What document 01 says. Of its order 38, 13, 18, 16, 17, 15, 14 the original has 16, 17 and
+    /// What the scope says. Of its order 38, 13, 18, 16, 17, 15, 14 the original has 16, 17 and
     /// 15, and is asked for these and for the samples alone.
     fn expected(&mut self, scene: &mut Scene, case: &Case) -> Result<Vec<u8>, u8> {
         let strays = without_meaning(&case.meaning());
@@ -149,8 +149,8 @@ impl Macroblocks {
         answer
     }
 
-    /// Document 01's own cases, in each format.
-    fn document_01(&mut self) -> Comparison {
+    /// The scope's own cases, in each format.
+    fn scope_cases(&mut self) -> Comparison {
         for format in FORMATS {
             let mut scene = Scene::picture(&mut self.run, 32, 16, format);
 
@@ -214,7 +214,7 @@ impl Macroblocks {
         Ok(())
     }
 
-    /// Each plane of each reference, made such as document 01 does not take: 14 where the reference
+    /// Each plane of each reference, made such as the scope does not take: 14 where the reference
     /// is used, accepted where it is not.
     fn unfit(&mut self) -> Comparison {
         for reference in 0..2 {

@@ -166,7 +166,7 @@ fn run(options: &Options) -> Result<bool, String> {
     }
     let total = |count: fn(&Run) -> u64| comparisons.runs().into_iter().map(count).sum::<u64>();
     println!(
-        "all {} cases agree, {} of them refused by document 01 alone",
+        "all {} cases agree, {} of them refused by the scope alone",
         total(Run::cases),
         total(Run::added),
     );

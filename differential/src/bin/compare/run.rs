@@ -12,7 +12,7 @@ use crate::lent::{Around, OFFSETS, Place};
 /// What a disagreement is: what differs, and the whole input.
 pub type Comparison = Result<(), String>;
 
-/// The refusals that document 01 adds, and of which the original cannot be asked.
+/// The refusals that the scope adds, and of which the original cannot be asked.
 const ADDED: [u8; 5] = [
     NO_MEANING,
     CODE_OUTSIDE,
@@ -127,7 +127,7 @@ impl Run {
             eprint!("\r\x1b[K");
         }
         println!(
-            "{}: {} cases agree, {} of them refused by document 01 alone; {:.1} s",
+            "{}: {} cases agree, {} of them refused by the scope alone; {:.1} s",
             self.name,
             self.cases,
             self.added,

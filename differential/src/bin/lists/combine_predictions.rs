@@ -15,7 +15,7 @@ use crate::list::{
 
 const SEED: u64 = 767;
 
-/// Document 01's number for the original's `None`.
+/// The scope's number for the original's `None`.
 const LENGTHS_DIFFER: u8 = 19;
 
 /// The directions of the port's kind.
@@ -47,7 +47,7 @@ pub fn list(edition: Edition) -> List {
 {ORIGINAL},
 release build) to inputs drawn by splitmix64 from the seed {seed}.
 The original returns a new vector, or None where the lengths differ. What follows from the
-output being lent is document 01's, the scope paper's: the number 19 for that None, the
+output being lent is the scope's (docs/SCOPE.md): the number 19 for that None, the
 number 18 for an output of the wrong length, 19 before 18, and that a refusal changes nothing.
 The last group is wrong on purpose."
     );
@@ -59,7 +59,7 @@ The last group is wrong on purpose."
         FIELDS,
     );
     let mut rng = Rng::new(seed);
-    document_01(&mut list, &mut rng);
+    scope_cases(&mut list, &mut rng);
     equal_lengths(&mut list, &mut rng);
     every_pair(&mut list, &mut rng);
     wrong_outputs(&mut list, &mut rng);
@@ -82,7 +82,7 @@ struct Averaging {
 }
 
 impl Averaging {
-    /// Asks the original, and document 01 for what comes of the lent output.
+    /// Asks the original, and the scope for what comes of the lent output.
     fn ask(rng: &mut Rng, forward: Vec<u8>, backward: Vec<u8>, length: usize) -> Self {
         let both = forward.len().min(backward.len());
         let means = average_predictions(&forward[..both], &backward[..both]).unwrap_or_default();
@@ -159,8 +159,8 @@ impl Display for Choice {
     }
 }
 
-fn document_01(list: &mut List, rng: &mut Rng) {
-    list.group("a. document 01's own: 0 and 1; 255 and 255; two empty inputs; 3 and 4 bytes");
+fn scope_cases(list: &mut List, rng: &mut Rng) {
+    list.group("a. the scope's own: 0 and 1; 255 and 255; two empty inputs; 3 and 4 bytes");
     list.case(Averaging::ask_fitting(rng, vec![0], vec![1]));
     list.case(Averaging::ask_fitting(rng, vec![255], vec![255]));
     list.case(Averaging::ask_fitting(rng, vec![], vec![]));

@@ -83,7 +83,7 @@ pub fn list(edition: Edition) -> List {
 ({ORIGINAL},
 release build) to inputs drawn by splitmix64 from the seed {seed}.
 The original returns a new vector, and None for a plane whose length is not its width times its
-height and for a block with a side of 0. Document 01's, the scope paper's, are the number 14 for
+height and for a block with a side of 0. The scope's (docs/SCOPE.md) are the number 14 for
 those; the same number for a plane with a side over 16384, a block with a side over 16, and a
 position outside -32768..32767 for a block and outside -32768..32782 for a predicted sample; the
 number 18 for an output of the wrong length; 14 before 18; and that a refusal changes nothing.
@@ -100,7 +100,7 @@ The last group is wrong on purpose."
         rng: Rng::new(seed),
         plane: Plane::new(0, 0, vec![]),
     };
-    document_01(&mut maker);
+    scope_cases(&mut maker);
     components(&mut maker);
     vectors(&mut maker);
     field_heights(&mut maker);
@@ -291,9 +291,9 @@ fn places(extent: i32, from_first: &[i32], from_last: &[i32]) -> Vec<i32> {
     places
 }
 
-fn document_01(maker: &mut Maker) {
+fn scope_cases(maker: &mut Maker) {
     maker.list.group(
-        "a. document 01's own: -3 and -4; the means of 0, 0, 0, 1 and of 0, 0, 1, 1; rows 10 20 and
+        "a. the scope's own: -3 and -4; the means of 0, 0, 0, 1 and of 0, 0, 1, 1; rows 10 20 and
 30 41, both halves at (0, 0) and at (1, 1); planes of zero width or height; a plane of one
 sample 7; 17 rows",
     );

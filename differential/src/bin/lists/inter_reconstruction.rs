@@ -87,8 +87,8 @@ pub fn list(edition: Edition) -> List {
         "Answers of two calls of src/inter_reconstruction.rs
 ({ORIGINAL},
 release build) to inputs drawn by splitmix64 from the seed {seed}.
-The original refuses with values of InterError: their numbers 15, 16 and 17 are document 01's, the
-scope paper's. The original returns three new vectors. Document 01's alone are the number 13 for a
+The original refuses with values of InterError: their numbers 15, 16 and 17 are the scope's
+(docs/SCOPE.md). The original returns three new vectors. The scope's alone are the number 13 for a
 column or a row over 1023; the number 18 for an output that is not as long as the three together;
 the number 14 for a plane of a used reference with a side over 16384, or of another length than
 its width times its height, which the original cannot have; the order 13, 18, 16, 17, 15, 14; and
@@ -118,7 +118,7 @@ The last group is wrong on purpose."
             format: ChromaFormat::Yuv420,
         },
     };
-    document_01(&mut maker);
+    scope_cases(&mut maker);
     directions(&mut maker);
     vectors(&mut maker);
     fields(&mut maker);
@@ -321,10 +321,10 @@ fn other_geometries(g: Geometry) -> [Geometry; 10] {
     ]
 }
 
-fn document_01(maker: &mut Maker) {
+fn scope_cases(maker: &mut Maker) {
     maker
         .list
-        .group("a. document 01's own: both references absent, bidirectional: 16");
+        .group("a. the scope's own: both references absent, bidirectional: 16");
     for (call, format) in calls_and_formats() {
         maker.picture(16, 16, format);
         let motion = maker.draw_motion(call, BOTH, 9);
@@ -338,7 +338,7 @@ fn document_01(maker: &mut Maker) {
 
     maker
         .list
-        .group("b. document 01's own: forward present with wrong geometry, backward absent: 17");
+        .group("b. the scope's own: forward present with wrong geometry, backward absent: 17");
     for (call, format) in calls_and_formats() {
         maker.picture(16, 16, format);
         for other in other_geometries(maker.dest) {
@@ -353,7 +353,7 @@ fn document_01(maker: &mut Maker) {
     }
 
     maker.list.group(
-        "c. document 01's own: no motion in either direction: zero vectors from the forward reference; for
+        "c. the scope's own: no motion in either direction: zero vectors from the forward reference; for
 field motion each field reads its own parity; with and without the backward reference, and without
 the forward one, which is 16",
     );
@@ -377,7 +377,7 @@ the forward one, which is 16",
     }
 
     maker.list.group(
-        "d. document 01's own: a column past the picture's edge but at most 1023 is answered by clamping;
+        "d. the scope's own: a column past the picture's edge but at most 1023 is answered by clamping;
 so is a row",
     );
     for (call, format) in calls_and_formats() {
@@ -792,7 +792,7 @@ fn refused_cells(maker: &mut Maker) {
     ];
 
     maker.list.group(
-        "q. document 01's and not the Rust's: columns and rows over 1023: 13; those of 1023 are answered",
+        "q. the scope's and not the Rust's: columns and rows over 1023: 13; those of 1023 are answered",
     );
     for (call, format) in calls_and_formats() {
         maker.picture(16, 16, format);
@@ -813,7 +813,7 @@ fn refused_cells(maker: &mut Maker) {
 
 fn refused_outputs(maker: &mut Maker) {
     maker.list.group(
-        "r. document 01's and not the Rust's: outputs of the wrong length: 18; one byte short and long,
+        "r. the scope's and not the Rust's: outputs of the wrong length: 18; one byte short and long,
 none, those of the other formats, and 256 more (this tells a port that compares one byte of the
 lengths)",
     );
@@ -841,7 +841,7 @@ fn refused_planes(maker: &mut Maker) {
     const OVER: usize = LARGEST_SIDE + 1;
 
     maker.list.group(
-        "s. document 01's and not the Rust's: a plane of a used reference with a sample less or more, with
+        "s. the scope's and not the Rust's: a plane of a used reference with a sample less or more, with
 none, with the wrong sides, with a side over 16384, with a product lost in 64 bits: 14, whichever
 plane it is",
     );
@@ -901,7 +901,7 @@ plane it is",
     }
 
     maker.list.group(
-        "t. document 01's and not the Rust's: such planes of a reference that is not used, there or absent:
+        "t. the scope's and not the Rust's: such planes of a reference that is not used, there or absent:
 accepted; planes without samples and with a side of 16384 too",
     );
     let mut formats = FORMATS.into_iter().cycle();
@@ -1011,7 +1011,7 @@ fn cause(maker: &mut Maker, call: Call, directions: Directions, holds: impl Fn(u
 /// 15 of either reference comes before 14 of either, though one of the two has no other geometry.
 fn orders_of_two(maker: &mut Maker) {
     maker.list.group(
-        "v. document 01's and not the Rust's: both directions, and one reference alone that declares another
+        "v. the scope's and not the Rust's: both directions, and one reference alone that declares another
 width, height or format, beside a plane of it or of the other that does not fit: 15 before 14
 (this tells a port that looks at one reference after the other)",
     );

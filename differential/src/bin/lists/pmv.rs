@@ -65,7 +65,7 @@ const F_CODES: RangeInclusive<u8> = 1..=9;
 /// Some that are refused, also such as 4 to 7 bits of them would be taken.
 const OTHER_F_CODES: [u8; 12] = [0, 10, 11, 15, 16, 17, 33, 65, 128, 129, 137, 255];
 
-/// Some codes that document 01 refuses, also such as 5, 8 or 16 bits of them would be taken.
+/// Some codes that the scope refuses, also such as 5, 8 or 16 bits of them would be taken.
 const OTHER_CODES: [i32; 24] = [
     -17,
     17,
@@ -107,7 +107,7 @@ const FAR_PRIORS: [i32; 10] = [
     i32::MAX,
 ];
 
-/// Document 01's refusals of a component.
+/// The scope's refusals of a component.
 const REFUSALS: RangeInclusive<u8> = 1..=6;
 
 /// Instead of a reach: all of i32.
@@ -179,8 +179,8 @@ pub fn list(edition: Edition) -> List {
         "Answers of the calls of src/pmv.rs
 ({ORIGINAL},
 release build) to inputs drawn by splitmix64 from the seed {seed}.
-The original refuses with texts: their numbers 1 and 3 to 12 are document 01's, the scope
-paper's. So is all of 2, for a code outside -16..16, after 1 and before the rest: the original
+The original refuses with texts: their numbers 1 and 3 to 12 are from docs/SCOPE.md, the scope.
+So is all of 2, for a code outside -16..16, after 1 and before the rest: the original
 takes such codes and is not asked about them. It has bytes for the codes of a vector. Where one
 of the two is outside -16..16, it is asked for the components one by one, the horizontal one
 first, and what it accepts is stored. Residuals are bytes, though some of its calls take more.
@@ -191,7 +191,7 @@ The last group is wrong on purpose."
         rng: Rng::new(seed),
         record: Fresh::ask().after,
     };
-    document_01(&mut maker);
+    scope_cases(&mut maker);
     f_codes(&mut maker);
     codes(&mut maker);
     residuals(&mut maker);
@@ -601,7 +601,7 @@ fn vector_case(
     VectorReconstruction::ask(before, vector)
 }
 
-fn document_01(maker: &mut Maker) {
+fn scope_cases(maker: &mut Maker) {
     const PARTS: [Part; 7] = [
         part(coded(16, None, 1), 0),
         part(coded(-16, None, 1), 0),
@@ -614,7 +614,7 @@ fn document_01(maker: &mut Maker) {
     const HALVED: Part = part(coded(0, None, 1), -3);
 
     maker.list.group(
-        "a. document 01's own, as deltas, as components, decoded and in vectors: f_code 1 and code 16;
+        "a. the scope's own, as deltas, as components, decoded and in vectors: f_code 1 and code 16;
 code -16 with priors 0 and -16; f_code 2, code 3, residual 1, prior 30; f_code 9, code -16,
 residual 255; code 0 with priors 47 and 48; the same prior -3 halved and not; a vector whose
 vertical part is refused; chroma of (-3, -3)",

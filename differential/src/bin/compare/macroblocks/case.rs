@@ -101,7 +101,7 @@ pub struct Read {
 }
 
 impl Case {
-    /// Whether each of the call's arguments has a meaning: document 01's refusal 38, which comes
+    /// Whether each of the call's arguments has a meaning: the scope's refusal 38, which comes
     /// before all else and which the original does not have. What stands beside a presence of 0 is
     /// left unread; that a reference is there and not used is no matter.
     pub fn meaning(&self) -> Vec<bool> {

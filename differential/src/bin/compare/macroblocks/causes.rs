@@ -7,7 +7,7 @@ use crate::run::Comparison;
 use oracle::macroblocks::LAST_CELL;
 use oracle::refusals::ACCEPTED;
 
-/// In document 01's order.
+/// In the scope's order.
 const CAUSES: [u8; 7] = [38, 13, 18, 16, 17, 15, 14];
 
 const DIRECTIONS: [[bool; 2]; 4] = [[false, false], [true, false], [false, true], [true, true]];

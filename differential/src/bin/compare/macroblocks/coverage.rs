@@ -445,7 +445,7 @@ fn used(motion: Motion) -> [bool; 2] {
     [Direction::Forward, Direction::Backward].map(|direction| motion.uses(direction))
 }
 
-/// All causes of refusal that hold: document 01's table, one row after the other.
+/// All causes of refusal that hold: the scope's table, one row after the other.
 fn causes(case: &Case, read: &Read, scene: &Scene) -> Vec<u8> {
     let used = used(read.motion);
     let [forward, backward] = read.references;

@@ -17,7 +17,7 @@ use crate::run::Run;
 /// How many cases are drawn on the same planes.
 pub const CASES: u64 = 16;
 
-/// The kinds of planes that document 01 does not take.
+/// The kinds of planes that the scope does not take.
 pub const UNFIT: usize = 14;
 
 const NAMES: [&str; 3] = ["Y", "Cb", "Cr"];
@@ -72,7 +72,7 @@ impl Scene {
         Self::new(run, declared(width, height, format), [planes; 2], false)
     }
 
-    /// One picture for both references, with the largest plane that document 01 takes.
+    /// One picture for both references, with the largest plane that the scope takes.
     pub fn largest(run: &mut Run) -> Self {
         let planes = [
             sides(LARGEST_SIDE, LARGEST_SIDE),
@@ -139,7 +139,7 @@ impl Scene {
         scene
     }
 
-    /// Gives the original the plane of the same samples; an empty one, where document 01 does not
+    /// Gives the original the plane of the same samples; an empty one, where the scope does not
     /// take the plane. There the original is asked for 16, 17 and 15 alone, which depend on no
     /// plane. It cannot have a plane of another length, and stops at the fields of one with no
     /// columns and 4294967297 rows.
@@ -254,7 +254,7 @@ impl Scene {
             .map(|plane| plane.sides)
     }
 
-    /// Whether document 01 takes all planes of the references that are used.
+    /// Whether the scope takes all planes of the references that are used.
     pub fn in_domain(&self, motion: Motion) -> bool {
         let directions = [Direction::Forward, Direction::Backward];
         directions.into_iter().all(|direction| {

@@ -57,7 +57,7 @@ struct Case {
 }
 
 impl Case {
-    /// Whether each of `ARGUMENTS` has a meaning: document 01's refusal 38, which comes before all
+    /// Whether each of `ARGUMENTS` has a meaning: the scope's refusal 38, which comes before all
     /// else and which the original does not have. A type beside a presence of 0 is left unread.
     fn meaning(&self) -> [bool; ARGUMENTS.len()] {
         [
@@ -229,7 +229,7 @@ impl Updates {
             .map_err(|what| format!("case {}: {what}\n{case:#?}", self.run.cases()))
     }
 
-    /// What document 01 says: 38, and else what the original answers.
+    /// What the scope says: 38, and else what the original answers.
     fn expected(&mut self, case: &Case) -> Expected {
         let Buffers { predictors, result } = &self.buffers;
         let strays = without_meaning(&case.meaning());

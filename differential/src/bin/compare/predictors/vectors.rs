@@ -76,7 +76,7 @@ impl Part {
         }
     }
 
-    /// The difference, where document 01 has one.
+    /// The difference, where the scope has one.
     fn delta(self) -> Option<i32> {
         let Self {
             code,
@@ -113,7 +113,7 @@ struct Case {
 }
 
 impl Case {
-    /// Whether each of `ARGUMENTS` has a meaning: document 01's refusal 38, which comes before all
+    /// Whether each of `ARGUMENTS` has a meaning: the scope's refusal 38, which comes before all
     /// else and which the original does not have.
     fn meaning(&self) -> [bool; ARGUMENTS.len()] {
         [
@@ -339,7 +339,7 @@ impl Vectors {
             .map_err(|what| format!("case {}: {what}\n{case:#?}", self.run.cases()))
     }
 
-    /// What document 01 says: 38, and else what the original answers, with its own refusal 2.
+    /// What the scope says: 38, and else what the original answers, with its own refusal 2.
     fn expected(&mut self, case: &Case) -> Expected {
         let Buffers { predictors, result } = &self.buffers;
         let strays = without_meaning(&case.meaning());

@@ -1,4 +1,4 @@
-//! The lines of the forming list: each asks the original, and document 01 for what is refused.
+//! The lines of the forming list: each asks the original, and the scope for what is refused.
 
 use std::fmt::{self, Display};
 use std::ops::RangeInclusive;
@@ -12,7 +12,7 @@ use oracle::rng::Rng;
 
 use crate::list::{ACCEPTED, Hex, OUTPUT_LENGTH, ramp, telling_fill};
 
-/// Document 01's number for the original's `None`, a plane of another length or a block
+/// The scope's number for the original's `None`, a plane of another length or a block
 /// without samples, and for what else is outside the domain.
 pub const OUTSIDE_DOMAIN: u8 = 14;
 
@@ -264,7 +264,7 @@ impl Plane {
         })
     }
 
-    /// The same, where document 01 takes the plane too.
+    /// The same, where the scope takes the plane too.
     fn view_in_domain(&self, reference: Reference) -> Option<View<'_>> {
         let sides = [self.width, self.height];
         let small = sides.into_iter().all(|side| side <= LARGEST_SIDE);
@@ -402,7 +402,7 @@ impl PredictedBlock {
                 .into_iter()
                 .all(|side| BLOCK_SIDES.contains(&side))
             && position.within(BLOCK_POSITIONS);
-        // The original forms some blocks that document 01 refuses: the output tells these too.
+        // The original forms some blocks that the scope refuses: the output tells these too.
         let formed = plane
             .view(reference)
             .filter(|_| size.width.max(size.height) <= 2 * BLOCK_SIDES.end())

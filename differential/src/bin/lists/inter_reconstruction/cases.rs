@@ -1,4 +1,4 @@
-//! The lines of the macroblocks list: each asks the original, and document 01 for what it alone
+//! The lines of the macroblocks list: each asks the original, and the scope for what it alone
 //! refuses.
 
 use std::fmt::{self, Display};
@@ -121,7 +121,7 @@ impl Prediction {
             length,
             in_domain,
         };
-        // The original is asked also where document 01 refuses: what it forms there must not show.
+        // The original is asked also where the scope refuses: what it forms there must not show.
         let original = question.ask_original();
         let fill = telling_fill(rng, original.as_deref().unwrap_or_default());
         let answer = question.refused_before().and(original);

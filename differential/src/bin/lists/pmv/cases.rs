@@ -1,4 +1,4 @@
-//! The lines of the vector list: each asks the original, and document 01 for the number 2.
+//! The lines of the vector list: each asks the original, and the scope for the number 2.
 
 use std::fmt::{self, Display};
 
