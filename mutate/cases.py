@@ -1,6 +1,6 @@
 """Cases that judge the definitions, as modules of equations which the prover computes: a selection of the lists' lines; the worked cases
-of docs/SCOPE.md, which worked_cases has, and the runs and steps of worked_runs; and for what no list has, placing and the C buffers, cases from an account
-of it here and in placing.py."""
+of docs/SCOPE.md, which worked_cases has, and the runs and steps of worked_runs; and for what no list has, placing and the C buffers, cases
+from an account of it here and in placing.py."""
 
 import os
 import re
