@@ -18,8 +18,9 @@ use Rattle.laws.proofs.Rows.{row-in}
 use Rattle.laws.proofs.Tabulated.{tab-ext, length-tab, getD-tab, tab-append}
 use Rattle.laws.proofs.Parts.{part-length, part-at}
 use Rattle.forming_predictions.specs.Lines.{clampTo}
+use Rattle.forming_predictions.specs.Means.{mean4}
 use Rattle.forming_predictions.specs.Forming.{blockOf}
-use Rattle.forming_predictions.specs.inner.Views.{lineStart, viewRead, spread, twoOf, fourOf, lineCell, picked, columnAt, insideOf, ViewFits, BlockFits, Eights, RowFits, Inside, ColumnsFit, FetchFits, RegionFits}
+use Rattle.forming_predictions.specs.inner.Views.{lineStart, viewRead, spread, twoOf, fourOf, clampedOf, lineCell, picked, columnAt, insideOf, ViewFits, BlockFits, Eights, RowFits, Inside, ColumnsFit, FetchFits, RegionFits}
 use Rattle.forming_predictions.proofs.Lines.{clamp-in, clamp-lt}
 use Rattle.forming_predictions.proofs.Views.{empty-read}
 use Rattle.forming_predictions.proofs.RowMeans.{mean4-same, two-is-four}
@@ -43,6 +44,23 @@ pub block-ext : (w h : ℕ) (f g : ℤ → ℤ → ℕ) (x y : ℤ) → ((a b : 
 unfolding blockOf
 block-ext w h f g x y e = tab-ext (w * h) _ _ (λ k p. e _ _)
 
+-- ---- rows that are handed on
+-- two rows that lie in the samples, handed on as parts, and what their samples are
+module _ (s : List ℕ) (w a b : ℕ) (p : a + w ≤ length s) (q : b + w ≤ length s) where
+  pub parts-fit : (x dx n : ℕ) → x + dx + n ≤ w → RowFits (take (a + w - a) (drop a s)) (take (b + w - b) (drop b s)) x dx n
+  parts-fit x dx n h =
+      let l = part-length s a (a + w) p in
+      let m = part-length s b (b + w) q in
+      record { right = omega arith; same = omega arith }
+
+  pub parts-two : (x dx gap c : ℕ) → b ≡ a + gap → x + dx + c < w
+      → twoOf (take (a + w - a) (drop a s)) (take (b + w - b) (drop b s)) x dx c ≡ twoOf s s (a + x) (gap + dx) c
+  unfolding twoOf
+  parts-two x dx gap c e h =
+      let one : a + x + c ≡ a + (x + c) = omega arith in
+      let two : a + x + (gap + dx) + c ≡ b + (x + dx + c) = omega arith in
+      rw (one, two, part-at s a (a + w) (x + c) (omega arith), part-at s b (b + w) (x + dx + c) (omega arith))
+
 -- ---- a line that is read without clamping
 clamp-sum : (n a b : ℕ) → a + b < n → clampTo n (pos a +ℤ pos b) ≡ a + b
 clamp-sum n a b h = clamp-in n (a + b) h
@@ -65,10 +83,7 @@ module _ {s : List ℕ} {w first step count x y dx dy n : ℕ} (f : ViewFits s w
   below-room = f .room (y + dy) (omega (arith, i .below))
 
   pub line-rows : {a b : ℕ} → a ≡ here → b ≡ below → RowFits (take (a + w - a) (drop a s)) (take (b + w - b) (drop b s)) x dx n
-  line-rows {a} {b} p q =
-      let l = part-length s a (a + w) (rw p here-room) in
-      let m = part-length s b (b + w) (rw q below-room) in
-      record { right = omega (arith, i .right); same = omega arith }
+  line-rows {a} {b} p q = parts-fit s w a b (rw p here-room) (rw q below-room) x dx n (i .right)
 
   pub same-rows : {a b : ℕ} → a ≡ here → b ≡ below → dy ≡ 0 → take (b + w - b) (drop b s) ≡ take (a + w - a) (drop a s)
   same-rows {a} {b} p q e =
@@ -95,35 +110,35 @@ module _ {s : List ℕ} {w first step count x y dx dy n : ℕ} (f : ViewFits s w
         clamp-sums w x k dx (omega (arith, i .right)),
       )
 
--- ---- a block of 8 × 8 whose samples are read by their places: row r starts r strides after the first one
+-- ---- a block of 8 × 8: its row r starts r strides after the first one
 line-further : (first step w y r : ℕ) → lineStart first step w (y + r) ≡ lineStart first step w y + r * (step * w)
 line-further first step w y r =
     rw (mul-add step y r, ← add-assoc first (step * y) (step * r), add-mul (first + step * y) (step * r) w, mul-comm step r, mul-assoc r step w)
 
-pub no-gap : (dx dy stride : ℕ) → dx + dy ≡ 0 → 0 ≡ dx + dy * stride
+pub no-gap : (dx dy stride : ℕ) → dx + dy ≡ 0 → 0 ≡ dy * stride
 no-gap dx dy stride e = let z : dy ≡ 0 = omega arith in rw z (omega (arith, zero-mul stride))
 
-module _ {s : List ℕ} {w first step count x y dx dy gap : ℕ} (f : ViewFits s w first step count) (i : Inside w count x y dx dy 8 8)
-    (e : gap ≡ dx + dy * (step * w)) where
-  pub square-room : lineStart first step w y + x + 7 * (step * w) + gap + 8 ≤ length s
+-- the row below starts `gap` places further, and the right neighbour is `side` columns further
+module _ {s : List ℕ} {w first step count x y dx dy gap side : ℕ} (f : ViewFits s w first step count) (i : Inside w count x y dx dy 8 8)
+    (e : gap ≡ dy * (step * w)) (d : side ≡ dx) where
+  pub square-room : lineStart first step w y + 7 * (step * w) + gap + w ≤ length s
   square-room =
       omega (
         arith,
         f .room (y + (dy + 7)) (omega (arith, i .below)),
         line-further first step w y (dy + 7),
         add-mul dy 7 (step * w),
-        i .right,
       )
 
   square-cell : dx + dy ≤ 1 → (r c : ℕ) → r < 8 → c < 8
-      → twoOf s s (lineStart first step w y + x + r * (step * w)) gap c ≡ lineCell s w first step count (pos x) (pos (y + r)) dx dy c
+      → twoOf s s (lineStart first step w y + r * (step * w) + x) (gap + side) c ≡ lineCell s w first step count (pos x) (pos (y + r)) dx dy c
   unfolding twoOf
   square-cell n r c p q =
       let here = lineStart first step w (y + r) in
       let below = lineStart first step w (y + r + dy) in
       let line : Inside w count x (y + r) dx dy 8 1 = record { right = i .right; below = omega (arith, i .below) } in
-      let one : lineStart first step w y + x + r * (step * w) + c ≡ here + (x + c) = omega (arith, line-further first step w y r) in
-      let two : lineStart first step w y + x + r * (step * w) + gap + c ≡ below + (x + dx + c) =
+      let one : lineStart first step w y + r * (step * w) + x + c ≡ here + (x + c) = omega (arith, line-further first step w y r) in
+      let two : lineStart first step w y + r * (step * w) + x + (gap + side) + c ≡ below + (x + dx + c) =
       omega (arith, line-further first step w y r, line-further first step w (y + r) dy) in
       rw (
         one,
@@ -134,21 +149,51 @@ module _ {s : List ℕ} {w first step count x y dx dy gap : ℕ} (f : ViewFits s
       (two-is-four _ _ x dx dy c (omega arith) (omega arith) (λ b. omega arith) (same-rows f line refl refl) ∙ line-cells f line refl refl c q)
 
   pub square-block : dx + dy ≤ 1
-      → tabulate 64 (λ (k : ℕ). twoOf s s (lineStart first step w y + x + k / 8 * (step * w)) gap (k % 8))
+      → tabulate 64 (λ (k : ℕ). twoOf s s (lineStart first step w y + k / 8 * (step * w) + x) (gap + side) (k % 8))
       ≡ blockOf 8 8 (λ (a b : ℤ). spread (viewRead s w first step count) a b dx dy) (pos x) (pos y)
   unfolding blockOf lineCell
   square-block n =
       tab-ext 64 _ _ (λ k p. square-cell n (k / 8) (k % 8) (omega arith) (mod-lt k (omega arith)))
 
+-- ---- lines that are clamped
+module _ {s : List ℕ} {w first step count : ℕ} (f : ViewFits s w first step count) (y : ℤ) {a : ℕ} (p : a ≡ lineStart first step w (clampTo count y))
+  where
+    -- the row lies in the samples, and is handed on with all its columns
+    pub clamped-room : a + w ≤ length s
+    clamped-room = rw p (f .room (clampTo count y) (clamp-lt count y (f .lines)))
+
+    pub clamped-length : length (take (a + w - a) (drop a s)) ≡ w
+    clamped-length = part-length s a (a + w) clamped-room ∙ omega arith
+
+    -- the row below likewise: what is read in both, in clamped columns, is what the view reads
+    pub clamped-cells : (dy : ℕ) {b : ℕ} → b ≡ lineStart first step w (clampTo count (y +ℤ pos dy)) → (x : ℤ) (dx k : ℕ)
+        → clampedOf (take (a + w - a) (drop a s)) (take (b + w - b) (drop b s)) (x +ℤ pos k) dx ≡ lineCell s w first step count x y dx dy k
+    unfolding clampedOf lineCell spread viewRead
+    clamped-cells dy {b} q x dx k =
+        let here = clamp-lt w (x +ℤ pos k) (f .some) in
+        let right = clamp-lt w (x +ℤ pos k +ℤ pos dx) (f .some) in
+        rw (
+          clamped-length,
+          part-at s a (a + w) (clampTo w (x +ℤ pos k)) (omega arith),
+          part-at s a (a + w) (clampTo w (x +ℤ pos k +ℤ pos dx)) (omega arith),
+          part-at s b (b + w) (clampTo w (x +ℤ pos k)) (omega arith),
+          part-at s b (b + w) (clampTo w (x +ℤ pos k +ℤ pos dx)) (omega arith),
+          p,
+          q,
+        )
+
+-- in columns that were clamped
+pub clamped-is : (row below : List ℕ) (x : ℤ) (dx : ℕ) {a b : ℕ} → a ≡ clampTo (length row) x → b ≡ clampTo (length row) (x +ℤ pos dx)
+    → mean4 (getD row a 0) (getD row b 0) (getD below a 0) (getD below b 0) ≡ clampedOf row below x dx
+unfolding clampedOf
+clamped-is row below x dx p q = rw (p, q)
+
 -- ---- a line that is read in clamped columns
 module _ {s columns : List ℕ} {w first step count : ℕ} (f : ViewFits s w first step count) (g : ColumnsFit columns w) (y : ℤ) {a : ℕ}
     (p : a ≡ lineStart first step w (clampTo count y)) where
-  pub fetch-room : a + w ≤ length s
-  fetch-room = rw p (f .room (clampTo count y) (clamp-lt count y (f .lines)))
-
   pub fetch-columns : ColumnsFit columns (length (take (a + w - a) (drop a s)))
   fetch-columns =
-      let l = part-length s a (a + w) fetch-room in
+      let l = clamped-length f y p in
       record { some = g .some; few = g .few; even = g .even; inside = λ k h. omega (arith, g .inside k h) }
 
   pub fetch-cells : (k : ℕ) → k < length columns

@@ -20,7 +20,7 @@ ghost use Rattle.forming_predictions.specs.Forming.{formed, predictedBlo
 ghost use Rattle.forming_predictions.specs.Refusals.{outsideDomain, planeFits, positionFits, blockSideFits, planeRefusal, sampleRefusal, blockRefusal};
 ghost use Rattle.forming_predictions.specs.SampleAnswers.{sampleNumber, sampleValue, valueUnless, sampleAnswer};
 ghost use Rattle.forming_predictions.specs.BlockAnswers.{blockNumber, blockAnswer};
-ghost use Rattle.forming_predictions.specs.inner.Views.{lineStart, viewRead, spread, twoOf, fourOf, lineCell, pickedOf, picked, columnAt, viewBlock, ViewFits, Readable, BlockFits, Eights, RowFits, Inside, ColumnsFit, FetchFits, RegionFits, insideOf, Steps, Reach, RowsFit, ReadsAs, rowsSample, bitOf};
+ghost use Rattle.forming_predictions.specs.inner.Views.{lineStart, viewRead, spread, twoOf, fourOf, clampedOf, lineCell, pickedOf, picked, columnAt, viewBlock, ViewFits, Readable, BlockFits, Eights, RowFits, Inside, ColumnsFit, FetchFits, RegionFits, insideOf, Steps, Reach, RowsFit, ReadsAs, rowsSample, bitOf};
 
 /// Refusal: a plane's length is not width times height, or a side or a position is outside the domain.
 pub const OUTSIDE_DOMAIN: u8 = 14;
@@ -561,19 +561,32 @@ fn form_line(
     form_row(&samples[a..e], &samples[b..f], x, dx, dy, out);
 }
 
-/// Eight rows of eight, `stride` places apart, of two samples each, the second one `gap` places after the first. The number of rows is
+/// Eight rows of eight, of two samples each: one of a row of the plane, the other `dx` columns to the right in the row that starts `gap`
+/// places after it. The plane's rows are handed on as parts of its bytes, from `start` on, `stride` places apart. The number of rows is
 /// fixed, so that the loop is unrolled.
-fn two_square(samples: &[u8], start: usize, gap: usize, stride: usize, out: &mut [u8])
-    requires { ⌜ (start + 7 * stride + gap + 8 ≤ length (now samples)) × (stride ≤ 32768) × (length (now out) ≡ 64) ⌝ }
-    ensures { λ r. ⌜ now (out .exit) ≡ tabulate 64 (λ (k : ℕ). twoOf (now (samples .entry)) (now (samples .entry)) (start + k / 8 * stride) gap (k % 8)) ⌝ }
+fn two_square(
+    samples: &[u8],
+    width: usize,
+    start: usize,
+    gap: usize,
+    stride: usize,
+    x: usize,
+    dx: usize,
+    out: &mut [u8],
+)
+    requires { ⌜ (start + 7 * stride + gap + width ≤ length (now samples)) × (stride ≤ 32768) × (x + dx + 8 ≤ width) × (length (now out) ≡ 64) ⌝ }
+    ensures { λ r. ⌜ now (out .exit) ≡ tabulate 64 (λ (k : ℕ). twoOf (now (samples .entry)) (now (samples .entry)) (start + k / 8 * stride + x) (gap + dx) (k % 8)) ⌝ }
 {
-    let mut s = start;
+    let mut a = start;
     let mut r: usize = 0;
     while r < 8 {
+        let b = a + gap;
+        let e = a + width;
+        let f = b + width;
         let o = r * 8;
-        let e = o + 8;
-        two_eight(samples, samples, s, gap, &mut out[o..e]);
-        s += stride;
+        let p = o + 8;
+        two_eight(&samples[a..e], &samples[b..f], x, dx, &mut out[o..p]);
+        a += stride;
         r += 1;
     }
 }
@@ -595,13 +608,13 @@ fn form_square(
     requires { ⌜ ViewFits (now samples) width first step count × Inside width count x y dx dy 8 8 × (dx + dy ≤ 1) × (length (now out) ≡ 64) ⌝ }
     ensures { λ r. ⌜ now (out .exit) ≡ viewBlock (now (samples .entry)) width first step count (pos x) (pos y) dx dy 8 8 ⌝ }
 {
-    let start = line_start(first, step, width, y) + x;
+    let start = line_start(first, step, width, y);
     let stride = step * width;
     if dx + dy == 0 {
-        two_square(samples, start, 0, stride, out);
+        two_square(samples, width, start, 0, stride, x, 0, out);
         return;
     }
-    two_square(samples, start, dx + dy * stride, stride, out);
+    two_square(samples, width, start, dy * stride, stride, x, dx, out);
 }
 
 /// A block of 8 or 16 columns whose reads all lie inside: nothing is clamped.
@@ -1005,29 +1018,29 @@ fn form_any(
     }
 }
 
-/// A predicted sample; where it is no mean, one sample is read.
-fn clamped_sample(
-    samples: &[u8],
-    width: usize,
-    first: usize,
-    step: usize,
-    count: usize,
-    x: i32,
-    y: i32,
-    dx: usize,
-    dy: usize,
-) -> u8
-    requires { ⌜ ViewFits (now samples) width first step count × (dx ≤ 1) × (dy ≤ 1) ⌝ }
-    requires { ⌜ Steps 1 x × Steps 1 y ⌝ }
-    ensures { λ r. ⌜ r ≡ spread (viewRead (now (samples .entry)) width first step count) x y dx dy ⌝ }
+/// A predicted sample of two rows of the plane, in the columns that x is clamped to.
+fn clamped_sample(row: &[u8], below: &[u8], x: i32, dx: usize) -> u8
+    requires { ⌜ (0 < length (now row)) × (length (now below) ≡ length (now row)) × Steps 1 x × (dx ≤ 1) ⌝ }
+    ensures { λ r. ⌜ r ≡ clampedOf (now (row .entry)) (now (below .entry)) x dx ⌝ }
 {
-    if dx + dy == 0 {
-        return sample_at(samples, width, first, step, count, x, y);
-    }
-    form_sample(samples, width, first, step, count, x, y, dx, dy)
+    let here = clamp_to(row.len(), x);
+    let right = clamp_to(row.len(), shifted(x, dx));
+    avg4(row[here], row[right], below[here], below[right])
 }
 
-/// A row of a block, sample by sample.
+/// A row of them.
+fn clamped_row(row: &[u8], below: &[u8], x: i32, dx: usize, out: &mut [u8])
+    requires { ⌜ (0 < length (now row)) × (length (now below) ≡ length (now row)) × Reach x × (dx ≤ 1) × (length (now out) ≤ 16) ⌝ }
+    ensures { λ r. ⌜ now (out .exit) ≡ tabulate (length (now (out .entry))) (λ (k : ℕ). clampedOf (now (row .entry)) (now (below .entry)) (x +ℤ pos k) dx) ⌝ }
+{
+    let mut k: usize = 0;
+    while k < out.len() {
+        out[k] = clamped_sample(row, below, shifted(x, k), dx);
+        k += 1;
+    }
+}
+
+/// A row of a block past an edge: the plane's rows that the two lines are clamped to are handed on as parts of its bytes.
 fn clamped_line(
     samples: &[u8],
     width: usize,
@@ -1043,11 +1056,11 @@ fn clamped_line(
     requires { ⌜ ViewFits (now samples) width first step count × Reach x × Steps 1 y × (dx ≤ 1) × (dy ≤ 1) × (length (now out) ≤ 16) ⌝ }
     ensures { λ r. ⌜ now (out .exit) ≡ tabulate (length (now (out .entry))) (lineCell (now (samples .entry)) width first step count x y dx dy) ⌝ }
 {
-    let mut k: usize = 0;
-    while k < out.len() {
-        out[k] = clamped_sample(samples, width, first, step, count, shifted(x, k), y, dx, dy);
-        k += 1;
-    }
+    let a = line_start(first, step, width, clamp_to(count, y));
+    let b = line_start(first, step, width, clamp_to(count, shifted(y, dy)));
+    let e = a + width;
+    let f = b + width;
+    clamped_row(&samples[a..e], &samples[b..f], x, dx, out);
 }
 
 /// A block of any width that reaches past an edge, sample by sample: a small one takes less time than room for a copy of what it reads.

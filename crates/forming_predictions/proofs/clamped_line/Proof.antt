@@ -1,78 +1,114 @@
--- `clamped_line` meets its contract: after k turns the first k samples are in place.
+-- `clamped_line` meets its contract: the two rows lie in the samples, and what is read in them is what the view reads.
 -- Assumes nothing.
-use mathlib.Core.Path.{_≡_, refl, _∙_}
-use Prim.Native.Nat.{_-_, _<_}
-use native.Mathlib.Omega.{arith}
+use mathlib.Core.Path.{_≡_, sym, ap, _∙_}
+use Prim.Native.Nat.{_+_, _≤_}
 use lib.IntN.{pos, _+ℤ_}
 use lib.ListN.{length}
 use mir.Syntax.{w32}
-use mir.Val.{toZ, ofZ}
 use mir.Facts.{toZ-ofZ}
+use native.Mathlib.Omega.{arith}
 use Rattle.laws.proofs.Bits.{back}
-use Rattle.laws.proofs.Filled.{Filled, filled-none, filled-length, filled-step, filled-all}
-use Rattle.forming_predictions.specs.inner.Views.{lineCell}
-use Rattle.forming_predictions.proofs.Views.{steps-fewer, steps-on}
+use Rattle.laws.proofs.Tabulated.{tab-ext}
+use Rattle.forming_predictions.specs.Lines.{clampTo}
+use Rattle.forming_predictions.specs.inner.Views.{lineStart}
+use Rattle.forming_predictions.proofs.Lines.{clamp-lt}
+use Rattle.forming_predictions.proofs.Views.{steps-fewer}
+use Rattle.forming_predictions.proofs.Blocks.{clamped-room, clamped-length, clamped-cells}
 use borrow.Author.Needs.{needs}
 use Rattle.forming_predictions.proofs.clamped_line.Statement.{statement}
 use Rattle.forming_predictions.proofs.clamped_line.Tie as tie
 
-abbrev Inv-loop : tie.InvT-loop
-Inv-loop samples width first step count x y dx dy out₀ k₀ out k =
-    Filled (lineCell samples width first step count (toZ w32 x) (toZ w32 y) dx dy) out₀ k out
+-- the two lines, and where their rows start, in the caller's terms
+line : (c : tie.After-clamp-to) → (let a = c .before .before .before .args in c .clamp-to .result ≡ clampTo (a .count) (a .y))
+line c = rw (toZ-ofZ (c .before .before .before .fits .y)) at (c .clamp-to .ensures)
 
-abbrev μ-loop : tie.MeasureT-loop
-μ-loop samples width first step count x y dx dy out₀ k₀ out k = length out₀ - k
+begin : (c : tie.After-line-start)
+    → (let a = c .before .before .before .before .args in c .line-start .result ≡ lineStart (a .first) (a .step) (a .width) (clampTo (a .count) (a .y)))
+begin c = let a = c .before .before .before .before .args in c .line-start .ensures ∙ ap (lineStart (a .first) (a .step) (a .width)) (line (c .before))
 
--- which column it is, and its place in the caller's terms
-below : (c : tie.In-loop Inv-loop μ-loop) → c .before .loop .k < 16
-below c = omega (arith, c .loop-test .taken, filled-length (c .before .loop .inv), c .before .before .before .before .pre .5)
+line2 : (c : tie.After-clamp-to2)
+    → (let a = c .before .before .before .before .before .before .args in c .clamp-to2 .result ≡ clampTo (a .count) (a .y +ℤ pos (a .dy)))
+line2 c =
+    let s = c .before .before .before .before .before .before in
+    let h = c .before .shifted in
+    let at = back w32 (h .result) (h .ok) ∙ (rw (toZ-ofZ (s .fits .y)) at (h .ensures)) in
+    rw at at (c .clamp-to2 .ensures)
 
-at : (c : tie.After-shifted Inv-loop μ-loop)
-    → toZ w32 (ofZ w32 (c .shifted .result)) ≡ toZ w32 (ofZ w32 (c .before .before .before .before .before .args .x)) +ℤ pos (c .before .before .loop .k)
-at c = back w32 (c .shifted .result) (c .shifted .ok) ∙ c .shifted .ensures
+abbrev start : tie.After-line-start2 → tie.Start
+start c = c .before .before .before .before .before .before .before
 
-loop-holds : tie.Need-loop-holds Inv-loop μ-loop
-loop-holds c = filled-none _ _
+begin2 : (c : tie.After-line-start2)
+    → (let a = start c .args in c .line-start2 .result ≡ lineStart (a .first) (a .step) (a .width) (clampTo (a .count) (a .y +ℤ pos (a .dy))))
+begin2 c = let a = start c .args in c .line-start2 .ensures ∙ ap (lineStart (a .first) (a .step) (a .width)) (line2 (c .before))
 
-shifted-requires : tie.Need-shifted-requires Inv-loop μ-loop
+room : (c : tie.After-line-start2) → c .before .before .before .line-start .result + start c .args .width ≤ length (start c .args .samples .now)
+room c = let s = start c in clamped-room (s .pre .0) (s .args .y) (begin (c .before .before .before))
+
+room2 : (c : tie.After-line-start2) → c .line-start2 .result + start c .args .width ≤ length (start c .args .samples .now)
+room2 c = let s = start c in clamped-room (s .pre .0) (s .args .y +ℤ pos (s .args .dy)) (begin2 c)
+
+line-start-requires : tie.Need-line-start-requires
+line-start-requires c κs =
+    let s = c .before .before .before in
+    let f = s .pre .0 in
+    (f .low, f .apart, f .wide, omega (arith, clamp-lt (s .args .count) (s .args .y) (f .lines), f .high, line c))
+
+shifted-requires : tie.Need-shifted-requires
 shifted-requires c κs =
     let s = c .before .before .before .before in
-    let few = below c in
-    (rw (toZ-ofZ (s .fits .x)) (steps-fewer (s .pre .1) (omega arith)), omega arith)
+    (rw (toZ-ofZ (s .fits .y)) (steps-fewer (s .pre .2) (s .pre .4)), omega (arith, s .pre .4))
 
-clamped-sample-requires : tie.Need-clamped-sample-requires Inv-loop μ-loop
-clamped-sample-requires c κs =
-    let i = c .before in
-    let s = i .before .before .before .before in
-    let p = s .pre in
-    let few = below i in (
-      (p .0, p .3, p .4),
-      (rw (at c, toZ-ofZ (s .fits .x)) (steps-on (i .before .loop .k) (p .1) (omega arith)), rw (toZ-ofZ (s .fits .y)) (p .2)),
-    )
+line-start-requires-2 : tie.Need-line-start-requires-2
+line-start-requires-2 c κs =
+    let s = c .before .before .before .before .before .before in
+    let f = s .pre .0 in
+    (f .low, f .apart, f .wide, omega (arith, clamp-lt (s .args .count) (s .args .y +ℤ pos (s .args .dy)) (f .lines), f .high, line2 c))
 
-loop-again : tie.Need-loop-again Inv-loop μ-loop
-unfolding lineCell
-loop-again c =
-    let d = c .before in
-    filled-step (d .before .before .loop .inv) (search needs) (rw (at d) at (c .clamped-sample .ensures))
+add-e : tie.Need-add-e
+add-e c = omega (arith, room c, start c .good)
 
-returns : tie.Need-returns Inv-loop μ-loop
+add-f : tie.Need-add-f
+add-f c = omega (arith, room2 c, start c .good)
+
+part-clamped-row-end : tie.Need-part-clamped-row-end
+part-clamped-row-end c = room c
+
+part-clamped-row-end-2 : tie.Need-part-clamped-row-end-2
+part-clamped-row-end-2 c = room2 (c .before)
+
+clamped-row-requires : tie.Need-clamped-row-requires
+clamped-row-requires c κs =
+    let l = c .before .before .before in
+    let s = start l in
+    let f = s .pre .0 in
+    let one = clamped-length f (s .args .y) (begin (l .before .before .before)) in
+    let two = clamped-length f (s .args .y +ℤ pos (s .args .dy)) (begin2 l) in
+    (omega (arith, f .some, one), two ∙ sym one, rw (toZ-ofZ (s .fits .x)) (s .pre .1), s .pre .3, s .pre .5)
+
+returns : tie.Need-returns
 returns c =
-    let s = c .before .before .before .before in
-    rw (toZ-ofZ (s .fits .x), toZ-ofZ (s .fits .y)) at (filled-all (c .before .loop .inv) (search needs) refl)
+    let l = c .before .before .before .before .before .before in
+    let s = start l in
+    (rw (toZ-ofZ (s .fits .x)) at (c .before .before .clamped-row .ensures))
+    ∙ tab-ext _ _ _ (λ k h. clamped-cells (s .pre .0) (s .args .y) (begin (l .before .before .before)) (s .args .dy) (begin2 l) (s .args .x) (s .args .dx) k)
 
 pub clamped-line-spec : {M : Type 1} → statement M
 clamped-line-spec =
     tie.close
     (tie.spec
-    Inv-loop
-    μ-loop
-    loop-holds
+    (λ c κs. search needs)
+    line-start-requires
     shifted-requires
-    clamped-sample-requires
+    (λ c κs. search needs)
+    line-start-requires-2
+    add-e
+    add-f
     (λ c. search needs)
     (λ c. search needs)
+    part-clamped-row-end
     (λ c. search needs)
-    loop-again
+    (λ c. search needs)
+    part-clamped-row-end-2
+    clamped-row-requires
     (λ c. search needs)
     returns)

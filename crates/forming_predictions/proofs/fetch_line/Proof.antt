@@ -9,7 +9,7 @@ use Rattle.laws.proofs.Tabulated.{tab-ext}
 use Rattle.forming_predictions.specs.Lines.{clampTo}
 use Rattle.forming_predictions.specs.inner.Views.{lineStart}
 use Rattle.forming_predictions.proofs.Lines.{clamp-lt}
-use Rattle.forming_predictions.proofs.Blocks.{fetch-room, fetch-columns, fetch-cells}
+use Rattle.forming_predictions.proofs.Blocks.{clamped-room, fetch-columns, fetch-cells}
 use borrow.Author.Needs.{needs}
 use Rattle.forming_predictions.proofs.fetch_line.Statement.{statement}
 use Rattle.forming_predictions.proofs.fetch_line.Tie as tie
@@ -22,7 +22,7 @@ begin : (c : tie.After-line-start) → c .line-start .result ≡ (let a = c .bef
 begin c = let a = c .before .before .before .before .before .args in c .line-start .ensures ∙ ap (lineStart (a .first) (a .step) (a .width)) (line (c .before))
 
 room : (c : tie.After-line-start) → c .line-start .result + c .before .before .before .before .before .args .width ≤ length (c .before .before .before .before .before .args .samples .now)
-room c = let s = c .before .before .before .before .before in fetch-room (s .pre .0) (s .pre .1) (s .args .y) (begin c)
+room c = let s = c .before .before .before .before .before in clamped-room (s .pre .0) (s .args .y) (begin c)
 
 line-start-requires : tie.Need-line-start-requires
 line-start-requires c κs =

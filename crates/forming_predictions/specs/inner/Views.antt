@@ -36,6 +36,13 @@ unfoldable pub fourOf : List ℕ → List ℕ → ℕ → ℕ → ℕ → ℕ
 fourOf row below x dx k =
     mean4 (getD row (x + k) 0) (getD row (x + dx + k) 0) (getD below (x + k) 0) (getD below (x + dx + k) 0)
 
+-- the mean of four samples of two rows, in the columns that x and the one dx further are clamped to
+unfoldable pub clampedOf : List ℕ → List ℕ → ℤ → ℕ → ℕ
+clampedOf row below x dx =
+    let here = clampTo (length row) x in
+    let right = clampTo (length row) (x +ℤ pos dx) in
+    mean4 (getD row here 0) (getD row right 0) (getD below here 0) (getD below right 0)
+
 -- sample k of a line y, from column x on
 unfoldable pub lineCell : List ℕ → ℕ → ℕ → ℕ → ℕ → ℤ → ℤ → ℕ → ℕ → ℕ → ℕ
 lineCell samples w first step count x y dx dy k = spread (viewRead samples w first step count) (x +ℤ pos k) y dx dy
