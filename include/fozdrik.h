@@ -8,19 +8,22 @@
  *   fozdrik_predict_field_macroblock    a macroblock of a frame picture predicted by field vectors
  *
  * The last part of this file has a short form of each over structs. Use those: the raw calls of prediction
- * take some fifty arguments. docs/C-INTERFACE.md has layouts, the order of refusals, and examples.
+ * take some fifty arguments. docs/C-INTERFACE.md has layouts, the order of refusals, and examples, and says how
+ * field pictures, 16 x 8 and dual prime, for which there is no call, can be predicted by these.
  *
  * Every call
  *   - takes any value of its types, and returns 0 or the number of a refusal (enum fozdrik_refusal).
- *     After a refusal all that the call could write is as before, with the one exception that is written
+ *     After a refusal all that the call could write holds what it held, with the one exception that is written
  *     at the vector call.
  *   - ends, allocates nothing, keeps nothing and has no state: any number of threads may call at once, each
- *     with outputs of its own.
+ *     with predictors and outputs of its own.
  *   - trusts its pointers, since C can tell nothing of them. Each must have as many bytes behind it as the
- *     length after it says, also where a call refuses. Where the length is 0 the pointer may be null; that is
- *     what to pass for the planes of a reference that is absent.
- *   - asks that nothing it writes overlaps anything else it is given. Inputs may overlap, or be the same:
- *     one picture may be both references.
+ *     length after it says, used or not, also beside a presence of 0 and where the call refuses. Where the length
+ *     is 0 the pointer may be null; that is what to pass for the planes of a reference that is absent.
+ *   - needs predictors, vector, outcome and out to be writable, and read and written by nobody else during the
+ *     call, also where it refuses: a refused vector or update may store again what was there.
+ *   - asks that nothing it writes overlaps anything else it is given, and that nobody writes its inputs meanwhile.
+ *     Inputs may overlap, or be the same: one picture may be both references.
  *   - asks for no alignment.
  */
 #ifndef FOZDRIK_H
@@ -28,6 +31,12 @@
 
 #include <stddef.h>
 #include <stdint.h>
+
+/* The version of this header, which is the first of CHANGELOG.md, and all of it as one number. The archive has none. */
+#define FOZDRIK_VERSION_MAJOR 0
+#define FOZDRIK_VERSION_MINOR 1
+#define FOZDRIK_VERSION_PATCH 0
+#define FOZDRIK_VERSION (10000 * FOZDRIK_VERSION_MAJOR + 100 * FOZDRIK_VERSION_MINOR + FOZDRIK_VERSION_PATCH)
 
 #ifdef __cplusplus
 extern "C" {
@@ -58,7 +67,14 @@ enum fozdrik_component {
     FOZDRIK_VERTICAL = 1
 };
 
-/* mv_format */
+/* mv_format, which is not coded but follows from the motion type (Tables 6-17 and 6-18), and how many vectors each
+ * direction has. A concealment vector, which an intra macroblock has, is one of the forward direction.
+ *
+ *     frame picture   frame-based   frame   1        field picture   field-based   field   1
+ *                     field-based   field   2                        16 x 8        field   2
+ *                     dual prime    field   1                        dual prime    field   1
+ *                     concealment   frame   1                        concealment   field   1
+ */
 enum fozdrik_mv_format {
     FOZDRIK_FIELD_VECTOR = 0,
     FOZDRIK_FRAME_VECTOR = 1
@@ -93,7 +109,7 @@ enum fozdrik_chroma_format {
     FOZDRIK_YUV444 = 2
 };
 
-/* flags and presences. What stands beside a presence of 0 counts for nothing, whatever it is. */
+/* flags and presences. No number beside a presence of 0 counts, whatever it is; a pointer there is as any other. */
 enum fozdrik_flag {
     FOZDRIK_NO = 0,
     FOZDRIK_YES = 1
@@ -111,36 +127,40 @@ enum fozdrik_outcome {
     FOZDRIK_DUAL_PRIME_COPY_FORWARD = 7
 };
 
-/* What the four calls return: 0, or one of these. Each call's comment has the order in which it tests. */
+/* What the four calls return: 0, or one of these. Each call's comment has the order in which it tests.
+ *
+ * stream: the bits of a damaged or cut stream can lead there, though the program is right. Conceal what is left of the
+ * slice, and go on at the next one. caller: the program is wrong. docs/C-INTERFACE.md says more of each.
+ */
 enum fozdrik_refusal {
     FOZDRIK_ACCEPTED = 0,
 
     /* a vector */
-    FOZDRIK_F_CODE_OUTSIDE = 1,     /* f_code is not 1 to 9 */
-    FOZDRIK_CODE_OUTSIDE = 2,       /* motion_code is not -16 to 16 */
-    FOZDRIK_RESIDUAL_FORBIDDEN = 3, /* there is a motion_residual, though f_code is 1 or the code 0 */
-    FOZDRIK_RESIDUAL_MISSING = 4,   /* there is none, though f_code is above 1 and the code not 0 */
-    FOZDRIK_DELTA_OUTSIDE = 5,      /* the difference is outside the range of f_code, as code 16 at f_code 1 */
-    FOZDRIK_VECTOR_OUTSIDE = 6,     /* the vector is outside the range, even after one wrap */
+    FOZDRIK_F_CODE_OUTSIDE = 1,     /* stream (the picture's header): f_code is not 1 to 9 */
+    FOZDRIK_CODE_OUTSIDE = 2,       /* caller: motion_code is not -16 to 16 */
+    FOZDRIK_RESIDUAL_FORBIDDEN = 3, /* caller: there is a motion_residual, though f_code is 1 or the code 0 */
+    FOZDRIK_RESIDUAL_MISSING = 4,   /* caller: there is none, though f_code is above 1 and the code not 0 */
+    FOZDRIK_DELTA_OUTSIDE = 5,      /* stream: the difference is outside the range of f_code, as code 16 at f_code 1 */
+    FOZDRIK_VECTOR_OUTSIDE = 6,     /* caller (predictors of other f_codes): the vector is outside, even after a wrap */
 
     /* an update */
-    FOZDRIK_INTRA_WITH_MOTION = 7,         /* an intra macroblock with a motion flag */
-    FOZDRIK_TYPE_MISSING = 8,              /* not intra, and no prediction type */
-    FOZDRIK_FRAME_BASED_IN_FIELD = 9,      /* frame-based in a field picture */
-    FOZDRIK_SIXTEEN_BY_EIGHT_IN_FRAME = 10,
-    FOZDRIK_DUAL_PRIME_FLAGS = 11,         /* dual prime, and the flags are not forward alone */
-    FOZDRIK_NONE_ROW_FLAGS = 12,           /* a row "(none)" without a motion flag */
+    FOZDRIK_INTRA_WITH_MOTION = 7,          /* caller: an intra macroblock with a motion flag */
+    FOZDRIK_TYPE_MISSING = 8,               /* caller: not intra, and no prediction type */
+    FOZDRIK_FRAME_BASED_IN_FIELD = 9,       /* caller: frame-based in a field picture */
+    FOZDRIK_SIXTEEN_BY_EIGHT_IN_FRAME = 10, /* caller */
+    FOZDRIK_DUAL_PRIME_FLAGS = 11,          /* stream: dual prime, and the flags are not forward alone */
+    FOZDRIK_NONE_ROW_FLAGS = 12,            /* caller: a row "(none)" without a motion flag */
 
     /* a prediction */
-    FOZDRIK_CELL_TOO_FAR = 13,     /* mb_col or mb_row is over 1,023 */
-    FOZDRIK_OUTSIDE_DOMAIN = 14,   /* a plane's length is not width * height, or a side is over 16,384 */
-    FOZDRIK_OTHER_GEOMETRY = 15,   /* a reference declares another width, height or format than the picture */
-    FOZDRIK_FORWARD_MISSING = 16,  /* the forward reference is used, and absent */
-    FOZDRIK_BACKWARD_MISSING = 17, /* the backward reference is used, and absent */
-    FOZDRIK_WRONG_LENGTH = 18,     /* out is not of a macroblock's length */
+    FOZDRIK_CELL_TOO_FAR = 13,     /* caller: mb_col or mb_row is over 1,023 */
+    FOZDRIK_OUTSIDE_DOMAIN = 14,   /* caller: a plane's length is not width * height, or a side is over 16,384 */
+    FOZDRIK_OTHER_GEOMETRY = 15,   /* caller: a reference declares another width, height or format than the picture */
+    FOZDRIK_FORWARD_MISSING = 16,  /* stream (a start, a switch): the forward reference is used, and absent */
+    FOZDRIK_BACKWARD_MISSING = 17, /* stream (a start, a switch): the backward reference is used, and absent */
+    FOZDRIK_WRONG_LENGTH = 18,     /* caller: out is not of a macroblock's length */
 
     /* any call */
-    FOZDRIK_NO_MEANING = 38        /* a kind, flag or presence has no meaning, or predictors, vector or outcome
+    FOZDRIK_NO_MEANING = 38        /* caller: a kind, flag or presence has no meaning, or predictors, vector or outcome
                                       has the wrong length; tested before all else */
 };
 
@@ -149,7 +169,7 @@ enum fozdrik_length {
     FOZDRIK_PREDICTORS_LENGTH = 32,
     FOZDRIK_VECTOR_LENGTH = 8,
     FOZDRIK_OUTCOME_LENGTH = 1,
-    FOZDRIK_MACROBLOCK_420 = 384, /* 256 of luminance, then Cb, then Cr */
+    FOZDRIK_MACROBLOCK_420 = 384, /* the shape is at fozdrik_predict_frame_macroblock */
     FOZDRIK_MACROBLOCK_422 = 512,
     FOZDRIK_MACROBLOCK_444 = 768
 };
@@ -166,7 +186,7 @@ enum fozdrik_length {
  *
  * Refusals: 38; then of the horizontal part 1, 2, 3 or 4, 5, 6; then the same of the vertical part. A refusal
  * leaves vector as it was. It leaves the predictors as they were too, BUT where the vertical part is refused the
- * new horizontal predictor stays, as in the original.
+ * new horizontal predictor stays, as in the original. With 1 to 6 PMV[r][s] is stored all the same.
  */
 uint32_t fozdrik_reconstruct_motion_vector(
     uint32_t r, uint32_t s,
@@ -184,7 +204,8 @@ uint32_t fozdrik_reconstruct_motion_vector(
  * stream has none, pass frame-based in a frame picture and field-based in a field picture.
  * predictors: as above. outcome: 1 byte, which takes a number of enum fozdrik_outcome.
  *
- * Refusals: 38; 7; 8; 9; 10; then 11 or 12. Nothing is changed by one.
+ * Refusals: 38; 7; 8; 9; 10; then 11 or 12. Nothing is changed by one; with 7 to 12 both buffers are stored all the
+ * same.
  */
 uint32_t fozdrik_update_predictors(
     uint32_t picture_structure,
@@ -202,7 +223,14 @@ uint32_t fozdrik_update_predictors(
  * their samples row after row without a gap. Then the vector of each direction, in half luminance samples; the
  * chrominance's is derived. Two directions are averaged. With no motion at all the zero vector is taken, from the
  * forward reference. What lies outside a plane is read as its nearest sample.
- * out: 384, 512 or 768 bytes by the format; luminance, Cb, Cr, each row after row in the order of the frame's lines.
+ *
+ * Planes have the coded size, whole macroblocks: 1,088 rows of luminance and not the 1,080 that are shown. With fewer,
+ * the last row is read in place of those that are missing, and nothing is refused.
+ *
+ * out: a block of each component, row after row in the order of the frame's lines; columns x rows, from which byte:
+ *     4:2:0   Y 16 x 16 from 0   Cb  8 x  8 from 256   Cr  8 x  8 from 320   384 bytes
+ *     4:2:2   Y 16 x 16 from 0   Cb  8 x 16 from 256   Cr  8 x 16 from 384   512 bytes
+ *     4:4:4   Y 16 x 16 from 0   Cb 16 x 16 from 256   Cr 16 x 16 from 512   768 bytes
  *
  * Refusals: 38; 13; 18; 16; 17; 15 of the forward reference, then of the backward one; 14. Of the last four only
  * those of the references that are used. Nothing is written by one.
@@ -307,8 +335,8 @@ struct fozdrik_update_context {
     uint32_t concealment_motion_vectors;
 };
 
-/* A plane: its samples row after row, without a gap. The length is that of the buffer: were it computed from the
- * sides, a wrong side would be read past the end and not refused. */
+/* A plane, of the coded size: its samples row after row, without a gap. The length is that of the buffer: were it
+ * computed from the sides, a wrong side would be read past the end and not refused. */
 struct fozdrik_plane {
     const uint8_t *samples;
     size_t length;
@@ -422,7 +450,7 @@ static inline uint32_t fozdrik_reconstruct_vector(
     return refusal;
 }
 
-/* fozdrik_update_predictors. A refusal leaves *outcome as it was. */
+/* fozdrik_update_predictors. A refusal leaves *outcome as it was, but may store it again. */
 static inline uint32_t fozdrik_update_pmv(
     const struct fozdrik_update_context *context, struct fozdrik_pmv *pmv, uint8_t *outcome)
 {

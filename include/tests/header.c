@@ -31,7 +31,12 @@ static void holds(int condition, const char *text)
 
 #define HOLDS(condition) holds(condition, #condition)
 
-/* ---- numbers: those of docs/C-INTERFACE.md */
+/* as a program asks for a version: it has to be a number for the preprocessor too */
+#if FOZDRIK_VERSION < 100
+#error "FOZDRIK_VERSION is less than that of 0.1.0"
+#endif
+
+/* ---- numbers: those of docs/C-INTERFACE.md, and the version */
 
 struct named {
     const char *name;
@@ -42,6 +47,10 @@ struct named {
 #define NUMBER(name, number) {#name, (uint32_t)(name), number}
 
 static const struct named numbers[] = {
+    NUMBER(FOZDRIK_VERSION_MAJOR, 0),
+    NUMBER(FOZDRIK_VERSION_MINOR, 1),
+    NUMBER(FOZDRIK_VERSION_PATCH, 0),
+    NUMBER(FOZDRIK_VERSION, 100),
     NUMBER(FOZDRIK_FIRST, 0),
     NUMBER(FOZDRIK_SECOND, 1),
     NUMBER(FOZDRIK_FORWARD, 0),
