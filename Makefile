@@ -89,9 +89,12 @@ symbols: declarations $(LIBRARY)
 		{ name = $$2; size = $$3 } END { exit bad }'
 	@echo "the library has no data that can be written"
 
-# every name of the header has to occur in its test, but for its guard
+# every name of the header has to occur in its test, but for its guard; its version is the first of CHANGELOG.md
 header-test: $(LIBRARY)
 	@mkdir -p build
+	@version=$$(awk '/^#define FOZDRIK_VERSION_(MAJOR|MINOR|PATCH) / { printf "%s%s", point, $$3; point = "." }' include/fozdrik.h); \
+		grep -m 1 '^## Fozdrik' CHANGELOG.md | grep -qwF "Fozdrik $$version" || \
+		{ echo "the header's version is $$version, which is not the first of CHANGELOG.md"; exit 1; }
 	@sed 's,//.*,,' include/fozdrik.h | grep -oE '(FOZDRIK|fozdrik)_[A-Za-z0-9_]+' | sort -u | grep -vx FOZDRIK_H | \
 		while read -r name; do grep -qw "$$name" include/tests/header.c || { echo "include/tests/header.c lacks $$name"; exit 1; }; done
 	@for compiler in $(STANDARDS); do \
