@@ -230,10 +230,10 @@ fn predicted(prior_pmv: i32, halved: bool) -> i32
 }
 
 /// In 64 bits: a prior may be any i32.
-fn summed(prediction: i32, delta: i32) -> i64
-    ensures { λ r. ⌜ (r ≡ prediction +ℤ delta) × Within 4294967296 r ⌝ }
+fn summed(base: i32, offset: i32) -> i64
+    ensures { λ r. ⌜ (r ≡ base +ℤ offset) × Within 4294967296 r ⌝ }
 {
-    prediction as i64 + delta as i64
+    base as i64 + offset as i64
 }
 
 fn raise(b: VectorRange, v: i64) -> i64
@@ -257,11 +257,11 @@ fn lower(b: VectorRange, v: i64) -> i64
 }
 
 /// The vector before its last test.
-fn wrap(b: VectorRange, prior_pmv: i32, halved: bool, delta: i32) -> i64
+fn wrap(b: VectorRange, prior_pmv: i32, halved: bool, offset: i32) -> i64
     requires { ⌜ Small b ⌝ }
-    ensures { λ r. ⌜ (r ≡ vectorOf b halved «prior_pmv» delta) × Within 4294983680 r ⌝ }
+    ensures { λ r. ⌜ (r ≡ vectorOf b halved «prior_pmv» offset) × Within 4294983680 r ⌝ }
 {
-    lower(b, raise(b, summed(predicted(prior_pmv, halved), delta)))
+    lower(b, raise(b, summed(predicted(prior_pmv, halved), offset)))
 }
 
 /// The predictor to be stored counts frame lines again.
@@ -276,14 +276,14 @@ fn next_predictor(vector: i32, halved: bool) -> i32
 }
 
 /// A component from its delta.
-fn from_delta(b: VectorRange, halved: bool, prior_pmv: i32, delta: i32) -> Reconstructed
+fn from_delta(b: VectorRange, halved: bool, prior_pmv: i32, offset: i32) -> Reconstructed
     requires { ⌜ Small b ⌝ }
-    ensures { λ r. ⌜ r ≡ reconstructedAnswer (fromDeltaRefusal b halved «prior_pmv» delta) (fromDelta b halved «prior_pmv» delta) ⌝ }
+    ensures { λ r. ⌜ r ≡ reconstructedAnswer (fromDeltaRefusal b halved «prior_pmv» offset) (fromDelta b halved «prior_pmv» offset) ⌝ }
 {
-    if !in_range(b, delta as i64) {
+    if !in_range(b, offset as i64) {
         return Reconstructed::Refused(DELTA_OUTSIDE);
     }
-    let v = wrap(b, prior_pmv, halved, delta);
+    let v = wrap(b, prior_pmv, halved, offset);
     if !in_range(b, v) {
         return Reconstructed::Refused(VECTOR_OUTSIDE);
     }
@@ -291,7 +291,7 @@ fn from_delta(b: VectorRange, halved: bool, prior_pmv: i32, delta: i32) -> Recon
     Reconstructed::Component(ReconstructedComponent {
         vector_prime: vector,
         new_pmv: next_predictor(vector, halved),
-        delta: delta,
+        delta: offset,
         range: b.range,
     })
 }

@@ -28,7 +28,7 @@ returns c =
     let u = c .before .before .summed in
     let r = c .before .raise in
     let e = rw (toZ-ofZ (s .fits .prior-pmv)) at (p .ensures) in
-    let f = rw (back w32 (p .result) (p .ok), toZ-ofZ (s .fits .delta), e) at (u .ensures .0) in
+    let f = rw (back w32 (p .result) (p .ok), toZ-ofZ (s .fits .offset), e) at (u .ensures .0) in
     let g = rw (back w64 (u .result) (u .ok), f) at (r .ensures .0) in
     let l = c .lower in
     rw (back w64 (l .result) (l .ok)) (rw (back w64 (r .result) (r .ok), g) at (l .ensures .0), l .ensures .1)
