@@ -89,7 +89,7 @@ units-at n (x ∷ l) (suc i) = units-at n l i
 first-near : (k : ℕ) (first : Pictures) → Beside k first (inUnits first)
 first-near k first n c h =
     record {
-      same = sym (length-map (first n c) (λ (b : ℕ). 8 ^ n * b));
+      same = sym (length-map (first n c) _);
       at = λ i. subst (λ (u : ℕ). Drifted n (getD (first n c) i 0) u) (sym (units-at n (first n c) i)) (drifted-first n (getD (first n c) i 0));
     }
 
