@@ -27,13 +27,13 @@ JUDGES = {
     "combine_predictions": ["replay_combine_predictions"],
     "forming_predictions": ["replay_forming_predictions", "fuzz"],
     "pmv": ["replay_pmv", "replay_inter_reconstruction", "fuzz"],
-    "inter_reconstruction": ["replay_inter_reconstruction", "try_placing", "run_drift", "fuzz"],
+    "inter_reconstruction": ["replay_inter_reconstruction", "replay_placing", "run_drift", "fuzz"],
     "fozdrik": ["fuzz"],
 }
 # files that the crate's first judge does not run, and what does
 RATHER = {
-    "inter_reconstruction/src/placing.rt": "try_placing",
-    "inter_reconstruction/src/samples.rt": "try_placing",
+    "inter_reconstruction/src/placing.rt": "replay_placing",
+    "inter_reconstruction/src/samples.rt": "replay_placing",
 }
 
 # The crates whose definitions are mutated, and the modules of cases that judge each, its own first, and of these the small ones.

@@ -1,8 +1,7 @@
-"""Placing a macroblock, by the words of docs/SCOPE.md: the Rust has no such call, and no list can have its answers. The definitions are held
-against this account (cases.py), and the code is, by a program that is made of it."""
+"""Placing a macroblock, by the words of docs/SCOPE.md, since the Rust has no such call. The definitions are held against this account (cases.py);
+the code is held against the list of replay_placing, whose account is another."""
 
 BYTES = {0: 384, 1: 512, 2: 768}  # of a macroblock, by its format: 4:2:0, 4:2:2, 4:4:4
-FORMATS = ["Yuv420", "Yuv422", "Yuv444"]
 GREY = 7  # what a plane holds beforehand
 LARGEST = 16384
 
@@ -85,85 +84,3 @@ def refusals():
     found.append(Case(20, 0, 32, 48, 2, 0, bytes=1))
     found.append(Case(20, 0, 24, 16, 0, 0, bytes=1))
     return found
-
-
-# ---- the program
-
-NAME = "try_placing"
-NEEDS = ["laws", "combine_predictions", "forming_predictions", "pmv", "inter_reconstruction", "io", "libc"]
-ROOM = 800000  # for a plane; behind its samples the program looks at some more
-BEHIND = 64
-PRIME = 1000000007
-
-PROGRAM = """
-use forming_predictions::ReferencePlane;
-use inter_reconstruction::frames::FrameBuffer;
-use inter_reconstruction::frames::FrameGeometry;
-use inter_reconstruction::placing::MacroblockPlacement;
-use inter_reconstruction::placing::place_macroblock;
-use libc::STDOUT_FILENO;
-use pmv::kinds::ChromaFormat;
-
-fn said(number: u64) {
-    io::print_decimal(STDOUT_FILENO, number);
-    io::write_all(STDOUT_FILENO, b" ");
-}
-
-fn sum(plane: &[u8]) -> u64 {
-    let mut s: u64 = 0;
-    let mut k: usize = 0;
-    while k < plane.len() {
-        s = (s * 31 + plane[k] as u64) % PRIME;
-        k += 1;
-    }
-    s
-}
-
-fn tried(
-    first: usize, f: ChromaFormat, w: usize, h: usize, yw: usize, yh: usize, bw: usize, bh: usize, rw: usize, rh: usize,
-    yn: usize, bn: usize, rn: usize, col: usize, row: usize, bytes: usize,
-) {
-    let mut data = [0u8; 1024];
-    let mut k: usize = 0;
-    while k < 1024 {
-        data[k] = ((first + k * 7) % 251) as u8;
-        k += 1;
-    }
-    let mut y = [GREYu8; ROOM];
-    let mut cb = [GREYu8; ROOM];
-    let mut cr = [GREYu8; ROOM];
-    let geometry = FrameGeometry { width: w, height: h, chroma_format: f };
-    let y_plane = ReferencePlane { width: yw, height: yh };
-    let cb_plane = ReferencePlane { width: bw, height: bh };
-    let cr_plane = ReferencePlane { width: rw, height: rh };
-    let picture = FrameBuffer { geometry: geometry, y: y_plane, cb: cb_plane, cr: cr_plane };
-    match place_macroblock(picture, col, row, &data[..bytes], &mut y[..yn], &mut cb[..bn], &mut cr[..rn]) {
-        MacroblockPlacement::Done => said(0),
-        MacroblockPlacement::Refused(n) => said(n as u64),
-    }
-    let a = yn + BEHIND;
-    let b = bn + BEHIND;
-    let c = rn + BEHIND;
-    said(sum(&y[..a]));
-    said(sum(&cb[..b]));
-    said(sum(&cr[..c]));
-    io::write_all(STDOUT_FILENO, b"\\n");
-}
-"""
-
-
-def program():
-    """the program, and what it has to write: for each case the answer, and a sum of each plane with some bytes behind it"""
-    calls, wrote = [], []
-    for n, c in enumerate(accepted() + refusals()):
-        words = [str(n), f"ChromaFormat::{FORMATS[c.format]}"] + [str(v) for v in [c.w, c.h, *c.sides, *c.counts, c.col, c.row, c.bytes]]
-        calls.append(f"    tried({', '.join(words)});\n")
-        sums = []
-        for plane in c.planes(lambda k: (n + k * 7) % 251):
-            s = 0
-            for v in plane + [GREY] * BEHIND:
-                s = (s * 31 + v) % PRIME
-            sums.append(s)
-        wrote.append(f"{c.number} {sums[0]} {sums[1]} {sums[2]} \n")
-    text = PROGRAM.replace("PRIME", str(PRIME)).replace("GREY", str(GREY)).replace("ROOM", str(ROOM)).replace("BEHIND", str(BEHIND))
-    return text + "\nfn main() {\n" + "".join(calls) + "}\n", "".join(wrote).encode()

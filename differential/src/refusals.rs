@@ -15,6 +15,8 @@ pub const CELL_TOO_FAR: u8 = 13;
 pub const OUTSIDE_DOMAIN: u8 = 14;
 /// Added: an output of the wrong length.
 pub const OUTPUT_LENGTH: u8 = 18;
+/// Added: a picture that is ill-formed, or a cell outside it.
+pub const ILL_FORMED: u8 = 20;
 /// Added: a number from C that has no meaning.
 pub const NO_MEANING: u8 = 38;
 

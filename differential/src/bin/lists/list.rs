@@ -173,6 +173,19 @@ impl Display for Hex<'_> {
     }
 }
 
+/// The samples of planes that a list gives by a seed, which the replay draws too: so simple that
+/// both do so alike, and with all values.
+pub struct Samples(pub u64);
+
+impl Iterator for Samples {
+    type Item = u8;
+
+    fn next(&mut self) -> Option<u8> {
+        self.0 = (self.0 % (1 << 31) * 1_103_515_245 + 12_345) % (1 << 31);
+        Some((self.0 >> 16) as u8)
+    }
+}
+
 /// What an output holds before the call.
 pub fn ramp(fill: u8, length: usize) -> Vec<u8> {
     (0..=u8::MAX)

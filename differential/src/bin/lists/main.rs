@@ -1,11 +1,12 @@
-//! Makes the fixed lists of the original's answers that the replay programs read, or
-//! checks that the ones in the repository are what is made today; or draws other lists, and sees
-//! that the programs agree with these.
+//! Makes the fixed lists of the original's answers that the replay programs read, and the list of
+//! placing, which the original does not have, or checks that the ones in the repository are what is
+//! made today; or draws other lists, and sees that the programs agree with these.
 
 mod combine_predictions;
 mod forming_predictions;
 mod inter_reconstruction;
 mod list;
+mod placing;
 mod pmv;
 mod replay;
 
@@ -20,12 +21,14 @@ use std::str::FromStr;
 use list::{Edition, List};
 use replay::Replay;
 
-/// A maker for each layer. A new layer adds its module above and a line here.
+/// A maker for each list. A new one adds its module above and a line here, at the end: its place
+/// decides what `--replay` draws.
 const MAKERS: &[fn(Edition) -> List] = &[
     combine_predictions::list,
     forming_predictions::list,
     pmv::list,
     inter_reconstruction::list,
+    placing::list,
 ];
 
 const USAGE: &str = "\

@@ -9,20 +9,7 @@ use oracle::macroblocks::{Geometry, Motion, Question, Sides};
 use oracle::pmv::Direction;
 use oracle::rng::Rng;
 
-use crate::list::{ACCEPTED, Hex, ramp, telling_fill};
-
-/// The samples of a reference, which the replay draws too: so simple that both do so alike, and
-/// with all values.
-struct Samples(u64);
-
-impl Iterator for Samples {
-    type Item = u8;
-
-    fn next(&mut self) -> Option<u8> {
-        self.0 = (self.0 % (1 << 31) * 1_103_515_245 + 12_345) % (1 << 31);
-        Some((self.0 >> 16) as u8)
-    }
-}
+use crate::list::{ACCEPTED, Hex, Samples, ramp, telling_fill};
 
 /// A line of kind 1.
 #[derive(Clone, Copy)]
