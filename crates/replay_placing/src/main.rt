@@ -1,5 +1,5 @@
-//! Replays the placing list on `place_macroblock`. Its answers are those of an account of placing by document 01's words, since the Rust has no
-//! such call. The list's head says what its fields mean.
+//! Replays the placing list on `place_macroblock`. Its answers are those of an account of placing by document 01's words, since the Rust
+//! has no such call. The list's head says what its fields mean.
 use forming_predictions::ReferencePlane;
 use inter_reconstruction::frames::FrameBuffer;
 use inter_reconstruction::frames::FrameGeometry;
@@ -80,8 +80,8 @@ fn draw(bytes: &mut [u8], seed: u64) -> u64 {
     s
 }
 
-/// The number that tells bytes, from that of the bytes before the last. The modulus is a prime and the factor one of its primitive roots, so that
-/// one other byte gives another number, and so do two that are exchanged.
+/// The number that tells bytes, from that of the bytes before the last. The modulus is a prime and the factor one of its primitive roots,
+/// so that one other byte gives another number, and so do two that are exchanged.
 fn told_by(h: u64, byte: u8) -> u64 {
     (h % 4294967291 * 1103515245 + byte as u64) % 4294967291
 }

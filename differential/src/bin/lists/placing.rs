@@ -82,9 +82,15 @@ macroblock has. A refusal changes nothing. The last group is wrong on purpose."
         rng: Rng::new(seed),
     };
     cells(&mut maker);
-    large_pictures(&mut maker);
+    // Large planes take more time than all others together: other cells of them tell little more.
+    if edition.is_kept() {
+        large_pictures(&mut maker);
+    }
     drawn(&mut maker);
     declared_over(&mut maker);
+    if edition.is_kept() {
+        large_declared(&mut maker);
+    }
     plane_sides_over(&mut maker);
     lengths(&mut maker);
     declared_ill_formed(&mut maker);
@@ -398,7 +404,9 @@ fn declared_over(maker: &mut Maker) {
             }
         }
     }
+}
 
+fn large_declared(maker: &mut Maker) {
     maker
         .list
         .group("e. the same with planes that fit, and all their samples: 14");
