@@ -274,7 +274,7 @@ differential: lists-check replays compare
 lists-check:
 	cd differential && $(CARGO) run --release --offline --bin lists -- --check
 
-REPLAYS = $(addprefix replay_,combine_predictions forming_predictions pmv inter_reconstruction placing)
+REPLAYS = $(addprefix replay_,combine_predictions forming_predictions pmv inter_reconstruction placing fozdrik)
 
 replays:
 	@mkdir -p build

@@ -1,7 +1,7 @@
 //! The macroblock layer: frame-based and field-based prediction of a macroblock from one reference
 //! or two, with all that is refused.
 
-mod cases;
+pub mod cases;
 
 use std::iter;
 

@@ -4,6 +4,7 @@
 
 mod combine_predictions;
 mod forming_predictions;
+mod fozdrik;
 mod inter_reconstruction;
 mod list;
 mod placing;
@@ -29,6 +30,7 @@ const MAKERS: &[fn(Edition) -> List] = &[
     pmv::list,
     inter_reconstruction::list,
     placing::list,
+    fozdrik::list,
 ];
 
 const USAGE: &str = "\

@@ -22,12 +22,12 @@ pub struct Planes {
 }
 
 impl Planes {
-    fn in_domain(&self) -> bool {
+    pub fn in_domain(&self) -> bool {
         [self.y, self.cb, self.cr].into_iter().all(Sides::in_domain)
     }
 
     /// The original's frame of these planes.
-    fn frame(&self, declared: Geometry) -> FrameBuffer {
+    pub fn frame(&self, declared: Geometry) -> FrameBuffer {
         let mut samples = Samples(self.seed);
         let [y, cb, cr] = [self.y, self.cb, self.cr].map(|sides| {
             let run: Vec<u8> = samples.by_ref().take(sides.length).collect();
