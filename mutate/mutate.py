@@ -28,7 +28,7 @@ JUDGES = {
     "forming_predictions": ["replay_forming_predictions", "fuzz"],
     "pmv": ["replay_pmv", "replay_inter_reconstruction", "fuzz"],
     "inter_reconstruction": ["replay_inter_reconstruction", "replay_placing", "run_drift", "fuzz"],
-    "fozdrik": ["fuzz"],
+    "fozdrik": ["replay_fozdrik", "fuzz"],
 }
 # files that the crate's first judge does not run, and what does
 RATHER = {

@@ -1,4 +1,4 @@
-//! Replays the placing list on `place_macroblock`. Its answers are those of an account of placing by document 01's words, since the Rust
+//! Replays the placing list on `place_macroblock`. Its answers are those of an account of placing by the words of docs/SCOPE.md, since the Rust
 //! has no such call. The list's head says what its fields mean.
 use forming_predictions::ReferencePlane;
 use inter_reconstruction::frames::FrameBuffer;
@@ -113,7 +113,7 @@ fn draw_all(bytes: &mut [u8], y: &mut [u8], cb: &mut [u8], cr: &mut [u8], seed: 
     draw(cr, after_cb);
 }
 
-/// Lends the planes without what is behind them. The answer where they are not as long as they should be is no number of document 01's.
+/// Lends the planes without what is behind them. The answer where they are not as long as they should be is no number of the scope's.
 fn place(
     picture: FrameBuffer,
     mb_col: usize,

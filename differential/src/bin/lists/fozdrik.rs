@@ -1,5 +1,5 @@
 //! The four C entry points, on numbers and bytes: what the layers below answer, in the layout and by
-//! the numbers of document 01 and docs/C-INTERFACE.md, and the number 38.
+//! the numbers of docs/SCOPE.md and docs/C-INTERFACE.md, and the number 38.
 
 mod cases;
 mod macroblocks;
@@ -81,7 +81,7 @@ src/inter_reconstruction.rs
 ({ORIGINAL},
 release build) to inputs drawn by splitmix64 from the seed {seed}, in the form of the C entry points.
 The original has no such form. The numbers of its kinds are the places in its enums. The layout of
-the buffers is that of docs/C-INTERFACE.md. Document 01's alone, the scope paper's, are the number 38
+the buffers is that of docs/C-INTERFACE.md. The scope's (docs/SCOPE.md) and not the Rust's are the number 38
 for a number that is read and has no meaning, and for predictors, a vector's or an outcome's buffer
 of the wrong length, before all else; that what stands beside an absence is not read; the numbers 2,
 13, 14 and 18 with their places in the order; and that a refusal changes nothing but, where it is the

@@ -1,5 +1,5 @@
 //! Placing a macroblock in a picture. The original has no such call: the answers are those of an
-//! account of it here, written from document 01's words. The account goes through the positions of
+//! account of it here, written from the scope's words. The account goes through the positions of
 //! a plane, and asks of each which macroblock has it, and which of its bytes.
 
 use std::array;
@@ -105,7 +105,7 @@ macroblock has. A refusal changes nothing. The last group is wrong on purpose."
     maker.list
 }
 
-// ---- the account of document 01
+// ---- the account by docs/SCOPE.md
 
 /// What the call is given.
 #[derive(Clone, Copy)]

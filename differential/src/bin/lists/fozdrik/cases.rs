@@ -1,6 +1,6 @@
 //! The lines of the entry points' list. C passes numbers and bytes: what they mean, where they stand
-//! and when the number 38 comes is said here, by document 01 and docs/C-INTERFACE.md. What is left is
-//! asked of the original, and of document 01 for the refusals that it adds.
+//! and when the number 38 comes is said here, by docs/SCOPE.md and docs/C-INTERFACE.md. What is left is
+//! asked of the original, and of the scope for the refusals that it adds.
 
 use std::fmt::{self, Display};
 
@@ -48,7 +48,7 @@ pub const PREDICTORS: usize = 32;
 pub const VECTOR: usize = 8;
 pub const OUTCOME: usize = 1;
 
-/// Document 01 counts the kinds from 0 in the order of the original's enums. Stops where a row above
+/// The scope counts the kinds from 0 in the order of the original's enums. Stops where a row above
 /// has another.
 pub fn see_orders() {
     fn in_order<const N: usize>(numbers: [usize; N]) {
@@ -462,7 +462,7 @@ impl PredictionCall {
         })
     }
 
-    /// What is right, and what the original forms, also where document 01 refuses: it must not show.
+    /// What is right, and what the original forms, also where the scope refuses: it must not show.
     fn given(&self, planes: &[Planes; 2]) -> (Result<Vec<u8>, u8>, Vec<u8>) {
         let Some(meaning) = self.meaning() else {
             return (Err(NO_MEANING), Vec::new());

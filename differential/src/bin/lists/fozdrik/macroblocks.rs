@@ -242,7 +242,7 @@ where it is used",
 
 fn cells_and_outputs(maker: &mut Maker) {
     maker.list.group(
-        "macroblocks, g. document 01's and not the Rust's: columns and rows over 1023: 13; those of 1023
+        "macroblocks, g. the scope's and not the Rust's: columns and rows over 1023: 13; those of 1023
 are answered",
     );
     for call in CALLS {
@@ -264,7 +264,7 @@ are answered",
     }
 
     maker.list.group(
-        "macroblocks, h. document 01's and not the Rust's: outputs of the wrong length: 18, and not 38",
+        "macroblocks, h. the scope's and not the Rust's: outputs of the wrong length: 18, and not 38",
     );
     for (call, format) in calls_and_formats() {
         maker.picture((32, 32), format);
@@ -281,7 +281,7 @@ are answered",
 
 fn planes(maker: &mut Maker) {
     maker.list.group(
-        "macroblocks, i. document 01's and not the Rust's: each plane of either reference with a sample
+        "macroblocks, i. the scope's and not the Rust's: each plane of either reference with a sample
 less or more, with a side one off, or with a side over 16384: 14 where the reference
 is used",
     );
@@ -359,7 +359,7 @@ fn stray(request: &mut PredictionCall, argument: usize, which: usize) {
 
 fn no_meaning(maker: &mut Maker) {
     maker.list.group(
-        "macroblocks, j. document 01's and not the Rust's: each number without a meaning, all else
+        "macroblocks, j. the scope's and not the Rust's: each number without a meaning, all else
 accepted: 38",
     );
     for (call, format) in CALLS.into_iter().zip([0, 1]) {
@@ -376,7 +376,7 @@ accepted: 38",
 
 fn before_all_else(maker: &mut Maker) {
     maker.list.group(
-        "macroblocks, k. document 01's and not the Rust's: the same with a column over 1023, an output of
+        "macroblocks, k. the scope's and not the Rust's: the same with a column over 1023, an output of
 the wrong length, a reference that declares another height, and planes that do not fit: 38 before
 all else; and beside an absent reference",
     );
@@ -414,7 +414,7 @@ all else; and beside an absent reference",
 
 fn beside_an_absence(maker: &mut Maker) {
     maker.list.group(
-        "macroblocks, l. document 01's and not the Rust's: what stands beside an absence is not read: the
+        "macroblocks, l. the scope's and not the Rust's: what stands beside an absence is not read: the
 format and the sides of an absent reference, the fields and the vector of a direction without
 motion, each of any number",
     );

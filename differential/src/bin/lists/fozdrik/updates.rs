@@ -88,7 +88,7 @@ fn stray(mut numbers: [u32; NUMBERS], argument: usize, which: usize) -> [u32; NU
 
 fn no_meaning(maker: &mut Maker) {
     maker.list.group(
-        "updates, b. document 01's and not the Rust's: each number without a meaning, all else accepted:
+        "updates, b. the scope's and not the Rust's: each number without a meaning, all else accepted:
 38, the type's also where the macroblock is intra",
     );
     for numbers in [INTRA, FORWARD] {
@@ -103,7 +103,7 @@ fn no_meaning(maker: &mut Maker) {
     }
 
     maker.list.group(
-        "updates, c. document 01's and not the Rust's: the same where the update is refused: 38 before 7 to
+        "updates, c. the scope's and not the Rust's: the same where the update is refused: 38 before 7 to
 12",
     );
     for (number, numbers) in REFUSED {
@@ -123,7 +123,7 @@ fn no_meaning(maker: &mut Maker) {
 
 fn beside_an_absence(maker: &mut Maker) {
     maker.list.group(
-        "updates, d. document 01's and not the Rust's: any type beside an absence, which is not read: an
+        "updates, d. the scope's and not the Rust's: any type beside an absence, which is not read: an
 intra macroblock is accepted, any other refused with 8",
     );
     for (intra, number) in [(1, ACCEPTED), (0, 8)] {
@@ -137,7 +137,7 @@ intra macroblock is accepted, any other refused with 8",
 
 fn lengths(maker: &mut Maker) {
     maker.list.group(
-        "updates, e. document 01's and not the Rust's: predictors and outcome's buffer of the wrong length,
+        "updates, e. the scope's and not the Rust's: predictors and outcome's buffer of the wrong length,
 and both: 38, also where the update would be refused",
     );
     let lengths = [

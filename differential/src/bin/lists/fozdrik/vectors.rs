@@ -211,7 +211,7 @@ fn document_01(maker: &mut Maker) {
     ];
 
     maker.list.group(
-        "vectors, a. document 01's own: each of its cases for a component, as the horizontal part, as the
+        "vectors, a. the scope's own: each of its cases for a component, as the horizontal part, as the
 vertical one, and as the vertical one of a field vector in a frame picture",
     );
     for (f_code, code, residual, prior, number) in CASES {
@@ -354,7 +354,7 @@ fn stray(call: &mut VectorCall, argument: usize, which: usize) {
 
 fn no_meaning(maker: &mut Maker) {
     maker.list.group(
-        "vectors, f. document 01's and not the Rust's: each number without a meaning, all else accepted: 38",
+        "vectors, f. the scope's and not the Rust's: each number without a meaning, all else accepted: 38",
     );
     for argument in 0..NUMBERS {
         for which in 0..strays(0).len() {
@@ -367,7 +367,7 @@ fn no_meaning(maker: &mut Maker) {
 
 fn before_all_else(maker: &mut Maker) {
     maker.list.group(
-        "vectors, g. document 01's and not the Rust's: the same where a part is refused, of each number: 38
+        "vectors, g. the scope's and not the Rust's: the same where a part is refused, of each number: 38
 before 1 to 6, and the horizontal predictor does not change either",
     );
     for number in REFUSALS {
@@ -388,7 +388,7 @@ before 1 to 6, and the horizontal predictor does not change either",
 
 fn lengths(maker: &mut Maker) {
     maker.list.group(
-        "vectors, h. document 01's and not the Rust's: predictors and vector's buffer of the wrong length,
+        "vectors, h. the scope's and not the Rust's: predictors and vector's buffer of the wrong length,
 and both: 38, also where the vector would be refused",
     );
     let lengths = [
@@ -421,7 +421,7 @@ and both: 38, also where the vector would be refused",
 
 fn beside_an_absence(maker: &mut Maker) {
     maker.list.group(
-        "vectors, i. document 01's and not the Rust's: any residual beside an absence, which is not read:
+        "vectors, i. the scope's and not the Rust's: any residual beside an absence, which is not read:
 what is accepted is the same, and what lacks a residual is refused with 4",
     );
     for t in COMPONENTS {
