@@ -1,9 +1,8 @@
--- Every case of specs/Cases.antt holds.
+-- Every row of the table holds, by computing both sides.
 -- Assumes nothing.
 use mathlib.Core.Path.{_≡_, refl}
 use native.Mathlib.Omega.{arith}
 use lib.IntN.{ℤ}
-use Rattle.laws.specs.All.{All}
 use Rattle.forming_predictions.specs.Splitting.{floorHalf, halfFlag}
 use Rattle.forming_predictions.specs.Lines.{fieldLines, clampTo, rowOf, sampleAt}
 use Rattle.forming_predictions.specs.Forming.{combined, formed}
@@ -11,7 +10,7 @@ use Rattle.forming_predictions.proofs.Lines.{clamp-lt}
 use Rattle.pmv.specs.Delta.{scale, isPlain, delta, fCodeFits, codeFits, codeRefusal, deltaRefusal}
 use Rattle.pmv.specs.Component.{rangeOf, halves, wrapped, fromDelta, fromDeltaRefusal}
 use Rattle.pmv.specs.Chroma.{truncHalf}
-use Rattle.worked_cases.specs.Cases.{Holds, cases}
+use Rattle.worked_cases.specs.Cases.{CasesHold}
 
 infixr 60 _◂_
 -- a row, and those below it
@@ -22,7 +21,7 @@ a ◂ b = (a, b)
 only : (z : ℤ) → clampTo 1 z ≡ 0
 only z = omega (arith, clamp-lt 1 z (omega arith))
 
-pub cases-hold : All Holds cases
+pub cases-hold : CasesHold
 unfolding floorHalf halfFlag fieldLines clampTo rowOf sampleAt combined formed scale isPlain delta fCodeFits codeFits codeRefusal deltaRefusal rangeOf halves wrapped fromDelta fromDeltaRefusal truncHalf
 cases-hold =
     refl

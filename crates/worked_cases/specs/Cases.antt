@@ -1,12 +1,12 @@
--- The worked cases of docs/SCOPE.md, of all layers, in its order and nearly in its words: the table at the end, to be held beside it.
--- proofs/Cases.antt proves the single claim that all of them hold, from the definitions (cases-hold), which are the standard's where it has
--- some.
+-- The worked cases of docs/SCOPE.md, of all layers, in its order and nearly in its words: the table at the end, to be held beside it, and the
+-- single claim that all of them hold by the definitions, which are the standard's where it has some. `number_of_cases` promises it.
 use mathlib.Core.Path.{_≡_}
 use mathlib.Core.Bool.{Bool, true, false}
 use mathlib.Core.List.{List, [], _∷_, _++_}
 use Prim.Native.Nat.{ℕ, zero, suc}
 use lib.IntN.{ℤ, pos, negsuc}
 use lib.ListN.{length}
+use Rattle.laws.specs.All.{All}
 use Rattle.combine_predictions.specs.Averaging.{mean2}
 use Rattle.forming_predictions.specs.Splitting.{floorHalf, halfFlag}
 use Rattle.forming_predictions.specs.Lines.{frame, field, fieldLines, sampleAt}
@@ -146,3 +146,8 @@ cases =
     ∷ chroma-of (− 3, − 3) by Yuv422 is (− 1, − 3)
     ∷ chroma-of (− 3, − 3) by Yuv444 is (− 3, − 3)
     ∷ []
+
+-- ---- the claim: every row of the table holds
+
+abbrev pub CasesHold : Type 0
+CasesHold = All Holds cases
