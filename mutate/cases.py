@@ -841,9 +841,17 @@ fits k n cr h = refl
 
 
 # what the parts of the claim about drift say, by what follows from each
-CLAIM_USES = """use native.Mathlib.Omega.{arith}
-use lib.ListN.{length}
+CLAIM_USES = """use mathlib.Core.Path.{_≡_}
+use mathlib.Core.List.{[]}
+use mathlib.Core.Option.{some}
+use Prim.Native.Nat.{ℕ, _<_}
+use native.Mathlib.Omega.{arith}
+use lib.ListN.{length, getD}
+use Rattle.inter_reconstruction.specs.Components.{luma, cb}
+use Rattle.drift.specs.Steps.{Pictures, afterSteps}
+use Rattle.drift.specs.Unrounded.{afterUnroundedSteps, inUnits}
 use Rattle.drift.specs.Drift.{Fitting, Lower, Near, DriftWithin}
+use Rattle.worked_runs.specs.Steps.{wide}
 """
 CLAIMS = """
 pub fitting-last : (p : Pictures) → Fitting wide 2 p → length (p 2 luma) ≡ 512
@@ -864,8 +872,8 @@ within-is h p f = h wide 3 p f [] tt (omega arith) cb 7
 
 
 def worked(repository):
-    """The table's claim, the runs of the drift figure and the steps. What is claimed for all numbers there is claimed for some here, and the theorem about
-    drift is a hypothesis: a proof of it is no case."""
+    """The table's claim, the runs of the drift figure and the steps, and the texts in specs/ that change for a module of these: module, crate, name. What
+    is claimed for all numbers there is claimed for some here, and the theorem about drift is a hypothesis: a proof of it is no case."""
 
     def edited(text, *changes):
         for old, new in changes:
@@ -886,7 +894,7 @@ def worked(repository):
         )
     with open(os.path.join(folder, "specs", "Cases.antt")) as f:
         cases = edited(f.read(), (r"\(\(x y : ℤ\) → (sampleAt \(field Bottom\)[^\n]*?) x y ≡ sample\)", r"(\1 (negsuc 1) (pos 3) ≡ sample)"))
-    with open(os.path.join(runs_folder, "proofs", "Drift.antt")) as f:
+    with open(os.path.join(runs_folder, "proofs", "Runs.antt")) as f:
         runs = edited(
             f.read(),
             # pictures 1 and 2 alone: what is computed grows with the picture's number
@@ -903,23 +911,24 @@ def worked(repository):
         )
     few = edited(runs, (r"pub meets-above : .*?\n\n", ""), (r"pub meets-below : .*?\n\n", ""))
     with open(os.path.join(runs_folder, "proofs", "Steps.antt")) as f:
-        steps = CLAIM_USES + edited(f.read(), (r"Nat\.\{ℕ, ", "Nat.{ℕ, _<_, ")) + CLAIMS
-    # the means alone: what these leave depends on nearly all of a step
-    means = [line.strip().removeprefix("∷ ") for line in steps.split("\n") if re.match(r" +∷ left .* still still ∷ \[\]\)", line)]
-    few_steps = edited(
-        steps,
-        (r"(\nlefts =\n).*?\n\n", lambda m: m[1] + "    " + " ∷ ".join(means + ["[]"]) + "\n\n"),
-        (r"\nleave = [^\n]*", lambda m: "\nleave = " + "((refl, refl), " * len(means) + "tt" + ")" * len(means)),
-        (r"pub refuse : .*?\n\n", ""),
-    )
-    return {"Worked": table, "Runs": runs, "RunsFew": few, "Steps": steps, "StepsFew": few_steps}, cases
+        steps = CLAIM_USES + f.read() + CLAIMS
+    with open(os.path.join(runs_folder, "specs", "Steps.antt")) as f:
+        rows = f.read()
+    # the means of two directions alone, and of those by fields Cb: what these leave depends on nearly all of a step
+    few_steps = edited(steps, (r"pub refuse : .*?\n\n", ""), (r"pub steps-hold : .*?\n\n", ""))
+    for name, proof, wanted in (("copies", "copied", r" still still ∷ \[\]\)"), ("byFields", "by-fields", r" crossing bottoms ∷ \[\]\) 2 cb ")):
+        kept = [line.strip().removeprefix("∷ ") for line in rows.split("\n") if re.match(rf" +∷ left .*{wanted}", line)]
+        rows = edited(rows, (rf"(\n{name} =\n).*?\n\n", lambda m: m[1] + "    " + " ∷ ".join(kept + ["[]"]) + "\n\n"))
+        few_steps = edited(few_steps, (rf"(\n{proof} =).*?\n\n", lambda m: m[1] + " (refl, refl) ◂" * len(kept) + " tt\n\n"))
+    specs = {("Worked", "worked_cases", "Cases.antt"): cases, ("StepsFew", "worked_runs", "Steps.antt"): rows}
+    return {"Worked": table, "Runs": runs, "RunsFew": few, "Steps": steps, "StepsFew": few_steps}, specs
 
 
 def modules(repository):
-    """the modules of cases by name, and the table of worked_cases. `XFew` has some of the cases of X: it notices most, and soon."""
-    found, cases = worked(repository)
+    """the modules of cases by name, and what changes in specs/ for them. `XFew` has some of the cases of X: it notices most, and soon."""
+    found, specs = worked(repository)
     made = {"Averaging": averaging, "Forming": forming, "Vectors": pmv, "Macroblocks": macroblocks, "Placing": placings, "Entries": entries}
     for name, make in made.items():
         module = make(repository)
         found[name], found[name + "Few"] = module.text(), module.text(8)
-    return found, cases
+    return found, specs

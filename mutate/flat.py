@@ -8,8 +8,8 @@ import shutil
 import rattle
 
 CRATE = "definitions"
-# crates whose definitions are believed, lowest first; the last has the worked cases
-CRATES = ["laws", "combine_predictions", "forming_predictions", "pmv", "inter_reconstruction", "fozdrik", "drift", "worked_cases"]
+# crates whose definitions are believed, lowest first; the last two have cases
+CRATES = ["laws", "combine_predictions", "forming_predictions", "pmv", "inter_reconstruction", "fozdrik", "drift", "worked_cases", "worked_runs"]
 
 
 def renamed(text):

@@ -56,8 +56,8 @@ NEEDS = {
     "Placing": LAYERS,
     "Entries": LAYERS + ["fozdrik"],
     "Worked": LAYERS[:4] + ["worked_cases"],
-    "Runs": LAYERS + ["drift"],
-    "Steps": LAYERS + ["drift"],
+    "Runs": LAYERS + ["drift", "worked_runs"],
+    "Steps": LAYERS + ["drift", "worked_runs"],
 }
 # of one kind in one function so many at most, evenly, unless all are asked for: long calls have dozens that are much alike
 MOST = 4
@@ -146,12 +146,13 @@ class DefinitionCourt:
 
     def __init__(self, rt, folder, crates):
         self.rt, self.folder = rt, folder
-        modules, table = cases.modules(REPOSITORY)
+        modules, specs = cases.modules(REPOSITORY)
         for name in sorted({n for crate in crates for n in CASES[crate]}):
             needs = NEEDS[name.removesuffix("Few")]
             flat.make(REPOSITORY, self.path(name), {name: modules[name]}, needs)
-            if "worked_cases" in needs:
-                flat.write(self.path(name, "specs", "worked_cases", "Cases.antt"), flat.renamed(table))
+            for (module, crate, file), text in specs.items():
+                if module == name:
+                    flat.write(self.path(name, "specs", crate, file), flat.renamed(text))
             verdict, why = self.checked(name)
             if verdict != SURVIVED:
                 raise judges.Failure(f"without a mutation, the cases {name} are {verdict}: {why}")

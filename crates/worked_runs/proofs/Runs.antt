@@ -38,7 +38,7 @@ refusals = (refl, refl, refl)
 
 pub both-sides : BothSides
 unfolding tabulate floorHalf halfFlag fieldLines clampTo rowOf sampleAt combined formed planeFits truncHalf fieldSample directionSample usedSample rectangle macroblock sameGeometry planesFit stored pictureFits wellFormed stepPredictionRefusal prediction stepPlacingRefusal placement tableRefusal unroundedPrediction unroundedPlacement
-both-sides = ((refl, refl), (refl, refl))
+both-sides = (refl, refl)
 
 pub whole-vectors : WholeVectors
 unfolding tabulate floorHalf halfFlag fieldLines clampTo rowOf sampleAt combined formed planeFits truncHalf fieldSample directionSample usedSample rectangle macroblock sameGeometry planesFit stored pictureFits wellFormed stepPredictionRefusal prediction stepPlacingRefusal placement tableRefusal unroundedPrediction unroundedPlacement
@@ -69,5 +69,5 @@ in-range = (
 )
 
 -- what the claim says of a sample
-pub instance : Near 2 8 2 (sampleOf steps hollow 2 luma 37) (unroundedOf steps hollow 2 luma 37)
-instance = drift 2 g 2 hollow (fits (λ (k : ℕ). triangle (k % 16) (k / 16)) 2) steps in-range (omega arith) luma 37
+pub instance : Near 2 8 2 (sampleOf steps hollow 2 luma 86) (unroundedOf steps hollow 2 luma 86)
+instance = drift 2 g 2 hollow (fits (λ (k : ℕ). triangle (k % 16) (k / 16)) 2) steps in-range (omega arith) luma 86
