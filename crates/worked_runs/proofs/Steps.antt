@@ -29,7 +29,7 @@ copied = (refl, refl) ◂ (refl, refl) ◂ (refl, refl) ◂ (refl, refl) ◂ (re
 
 pub by-fields : All Leaves byFields
 unfolding tabulate floorHalf halfFlag fieldLines clampTo rowOf sampleAt combined formed planeFits truncHalf fieldSample directionSample usedSample rectangle macroblock sameGeometry planesFit stored pictureFits wellFormed stepPredictionRefusal prediction stepPlacingRefusal placement tableRefusal unroundedPrediction unroundedPlacement
-by-fields = (refl, refl) ◂ (refl, refl) ◂ (refl, refl) ◂ (refl, refl) ◂ (refl, refl) ◂ tt
+by-fields = (refl, refl) ◂ (refl, refl) ◂ (refl, refl) ◂ (refl, refl) ◂ tt
 
 pub refuse : All Refuses refusals
 unfolding tabulate floorHalf halfFlag fieldLines clampTo rowOf sampleAt combined formed planeFits truncHalf fieldSample directionSample usedSample rectangle macroblock sameGeometry planesFit stored pictureFits wellFormed stepPredictionRefusal prediction stepPlacingRefusal placement tableRefusal unroundedPrediction unroundedPlacement

@@ -96,19 +96,18 @@ copies =
     ∷ left high (step 2 (some 0) (some 1) 0 1 still still ∷ []) 2 cr 127 4128 (32 * (2127 + 6128))
     ∷ []
 
--- field-based steps from both references, in odd rows by the bottom fields' vectors, and in row 6 by the top fields'. A sample's number is its
--- place, so that the unrounded number says where is read: four samples once, two twice each, one four times. Row 31 is line 15 of the bottom
--- field: forward (-3, -5) leads to columns 7 and 8 of lines 12 and 13 of the top field, rows 24 and 26; backward (5, -2) to columns 11 and 12 of
--- line 14 of the bottom field, row 29.
+-- field-based steps from both references, in odd rows by the bottom fields' vectors, and in row 8 of the last by the top fields'. A sample's
+-- number is its place, so that the unrounded number says where is read: four samples once, two twice each, one four times. Row 31 is line 15 of
+-- the bottom field: forward (-3, -5) leads to columns 7 and 8 of lines 12 and 13 of the top field, rows 24 and 26; backward (5, -2) to columns 11
+-- and 12 of line 14 of the bottom field, row 29.
 abbrev pub byFields : List Left
 byFields =
     -- row 31 and column 9 of the luminance; row 11 of Cb and row 15 of Cr, by (-1, -2) and (2, -1)
     left high (fieldStep 2 (some 0) (some 1) 0 1 crossing bottoms ∷ []) 2 luma 505 2443 (8 * (391 + 392 + 423 + 424 + 2 * (4476 + 4477)))
     ∷ left high (fieldStep 2 (some 0) (some 1) 0 1 crossing bottoms ∷ []) 2 cb 92 3077 (8 * (2 * (1067 + 1068) + 2 * (5078 + 5094)))
     ∷ left high (fieldStep 2 (some 0) (some 1) 0 1 crossing bottoms ∷ []) 2 cr 125 4110 (8 * (2 * (2100 + 2101) + 2 * (6111 + 6127)))
-    -- row 6 and column 20 of the luminance; row 9 of Cb in 4:2:2, by (-1, -5) and (2, -2)
-    ∷ left wide (fieldStep 2 (some 0) (some 1) 1 0 crossing bottoms ∷ []) 2 luma 212 2357 (8 * (2 * (309 + 373) + 2 * (4372 + 4373)))
-    ∷ left wide (fieldStep 2 (some 0) (some 1) 1 0 crossing bottoms ∷ []) 2 cb 156 3093 (8 * (1043 + 1044 + 1075 + 1076 + 4 * 5126))
+    -- row 8 of Cb in 4:2:2, by (1, 3) and (0, 4)
+    ∷ left wide (fieldStep 2 (some 0) (some 1) 1 0 crossing bottoms ∷ []) 2 cb 140 3213 (8 * (1188 + 1189 + 1220 + 1221 + 4 * 5221))
     ∷ []
 
 -- ---- what is refused in the wide pictures: by the table, by the prediction and by placing
