@@ -1,5 +1,5 @@
 -- Runs of the drift figure that are computed on both sides, by the calls and with every mean exact: two meet the figure, above and below, so that it
--- cannot be made smaller; a third has field-based prediction and refused steps. Document 01, "The drift figure". Nothing here is the standard's.
+-- cannot be made smaller; a third has field-based prediction and refused steps. docs/SCOPE.md, "The drift figure". Nothing here is the standard's.
 use mathlib.Core.Path.{_≡_}
 use mathlib.Core.List.{List, [], _∷_, _++_}
 use mathlib.Core.Option.{none, some}

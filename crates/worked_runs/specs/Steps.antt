@@ -1,5 +1,5 @@
 -- Cases of single steps, by the calls and with every mean exact. The cell's column is not its row, the two references are not one picture, and all
--- samples differ: a definition that takes one for the other leaves another number. Document 01, "The drift figure". Nothing here is the standard's.
+-- samples differ: a definition that takes one for the other leaves another number. docs/SCOPE.md, "The drift figure". Nothing here is the standard's.
 use mathlib.Core.Path.{_≡_}
 use mathlib.Core.List.{List, [], _∷_}
 use mathlib.Core.Option.{Option, none, some}
