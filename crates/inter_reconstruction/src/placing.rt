@@ -12,7 +12,7 @@ use pmv::kinds::ChromaFormat;
 ghost use mathlib.Core.Path.{_≡_};
 ghost use lib.ListN.{length};
 ghost use Rattle.combine_predictions.specs.Refusals.{unlessRefused};
-ghost use Rattle.inter_reconstruction.specs.Components.{cb, columnsOf, linesOf};
+ghost use Rattle.inter_reconstruction.specs.Components.{ColourComponent, columnsOf, linesOf};
 ghost use Rattle.inter_reconstruction.specs.Frames.{samplesOf, lengthsOf};
 ghost use Rattle.inter_reconstruction.specs.Placing.{placeAt, stored, placed, wholeSide, wellFormed, cellInside, pictureFits, placingRefusal, placingAnswer, placingNumber};
 ghost use Rattle.inter_reconstruction.specs.inner.Placing.{Room, Placeable, sidesAre};
@@ -119,7 +119,7 @@ fn whole_side(side: usize) -> bool
 
 /// The sides of a chrominance plane that fits the picture's sides and format.
 fn chroma_sides(g: FrameGeometry) -> ReferencePlane
-    ensures { λ r. ⌜ (r .width ≡ columnsOf (g .«chroma_format») cb (g .width)) × (r .height ≡ linesOf (g .«chroma_format») cb (g .height)) ⌝ }
+    ensures { λ r. ⌜ (r .width ≡ columnsOf (g .«chroma_format») ColourComponent.cb (g .width)) × (r .height ≡ linesOf (g .«chroma_format») ColourComponent.cb (g .height)) ⌝ }
 {
     let f = g.chroma_format;
     match f {
