@@ -58,7 +58,7 @@ part-copy-samples-end : tie.Need-part-copy-samples-end Inv-loop μ-loop
 part-copy-samples-end c = source c
 
 part-copy-samples-end-2 : tie.Need-part-copy-samples-end-2 Inv-loop μ-loop
-part-copy-samples-end-2 c = room (c .before)
+part-copy-samples-end-2 c = omega (arith, room (c .before))
 
 add-r : tie.Need-add-r Inv-loop μ-loop
 add-r c =
