@@ -1063,7 +1063,8 @@ fn clamped_line(
     clamped_row(&samples[a..e], &samples[b..f], x, dx, out);
 }
 
-/// A block of any width that reaches past an edge, sample by sample: a small one takes less time than room for a copy of what it reads.
+/// A block of any width that reaches past an edge, out of the plane's rows: a small one takes less time than room for a copy of what it
+/// reads.
 fn clamped_lines(
     samples: &[u8],
     width: usize,
