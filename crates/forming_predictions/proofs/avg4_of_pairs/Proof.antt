@@ -4,6 +4,7 @@ use Rattle.forming_predictions.proofs.Pairs.{excess-below, of-pairs}
 use Rattle.forming_predictions.proofs.avg4_of_pairs.Statement.{statement}
 use Rattle.forming_predictions.proofs.avg4_of_pairs.Tie as tie
 
+-- before `sub-result`, so that must-fail/pairwise_means.edit fails here first, at what is wrong with it
 returns : tie.Need-returns
 returns c =
     let a = c .args in
