@@ -43,10 +43,10 @@ extern "C" {
 #endif
 
 /*
- * The numbers that stand for kinds. They count from 0 and are NOT the codes of the stream, which has
+ * The numbers that stand for kinds. They count from 0, and most are NOT the codes of the stream, which has
  * picture_structure 1, 2, 3 for top field, bottom field, frame, and chroma_format 1, 2, 3: pass the code less 1.
- * A number that is none of these is refused with 38. Arguments and fields are uint32_t and no enum types, since
- * an enum need not hold a number that it does not name.
+ * A number that is read and is none of these is refused with 38. Arguments and fields are uint32_t and no enum
+ * types, since an enum need not hold a number that it does not name.
  */
 
 /* r of Table 7-7: which of a macroblock's vectors in one direction */
@@ -129,8 +129,9 @@ enum fozdrik_outcome {
 
 /* What the four calls return: 0, or one of these. Each call's comment has the order in which it tests.
  *
- * stream: the bits of a damaged or cut stream can lead there, though the program is right. Conceal what is left of the
- * slice, and go on at the next one. caller: the program is wrong. docs/C-INTERFACE.md says more of each.
+ * stream: the bits of a damaged or cut stream can lead there, though the program is right. After 1, 5 and 11 conceal what
+ * is left of the slice, and go on at the next one; after 16 and 17 drop the picture. caller: the program is wrong.
+ * docs/C-INTERFACE.md says more of each.
  */
 enum fozdrik_refusal {
     FOZDRIK_ACCEPTED = 0,
@@ -290,7 +291,8 @@ uint32_t fozdrik_predict_field_macroblock(
 /* ---- the calls over structs
  *
  * They are C and not proved: they pass on what the structs hold, and read the buffers' bytes. Clear a struct
- * before you fill it, so that no field is uninitialized; all zero means absent and no motion everywhere.
+ * before you fill it, so that no field is uninitialized; all zero means no residual, no prediction type and no motion.
+ * A reference is absent where its pointer is null, not where its struct is all zero.
  */
 
 /* The predictors PMV[r][s][t]. Set them to zero where a slice starts, and wherever 7.6.3.4 says. */

@@ -38,7 +38,7 @@ pub record Near (n above below sample unrounded : ℕ) : Type 0 where
   pub low : 4 * unrounded ≤ 4 * (8 ^ n * sample) + below * 8 ^ n
 
 -- every sample of picture n, in every component, lies so after the steps, whatever the pictures were at first and whatever the steps are. The
--- sides may be any, and a sample any number: that the sides are multiples of 16 up to 16,384 and the samples bytes, as the demand has it, is not
+-- sides may be any, and a sample any number: that the sides are multiples of 16 up to 16,384 and the samples bytes, as the scope has it, is not
 -- needed.
 abbrev pub DriftWithin : ℕ → ℕ → ℕ → Type 0
 DriftWithin n above below =
