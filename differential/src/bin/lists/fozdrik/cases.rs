@@ -43,6 +43,9 @@ pub const CHROMA_FORMATS: [ChromaFormat; 3] = [
     ChromaFormat::Yuv444,
 ];
 
+/// Numbers at the ends of their 32 bits, and around 0.
+pub const ENDS: [i32; 7] = [i32::MIN, i32::MIN + 1, -1, 0, 1, i32::MAX - 1, i32::MAX];
+
 /// The right lengths.
 pub const PREDICTORS: usize = 32;
 pub const VECTOR: usize = 8;

@@ -2,7 +2,7 @@
 
 use oracle::refusals::{ACCEPTED, NO_MEANING};
 
-use super::cases::{OUTCOME, PREDICTORS, UpdateCall, predictor_bytes};
+use super::cases::{ENDS, OUTCOME, PREDICTORS, UpdateCall, predictor_bytes};
 use super::{Maker, strays};
 
 /// How many numbers are read for 38, the type among them.
@@ -52,6 +52,7 @@ pub fn groups(maker: &mut Maker) {
     no_meaning(maker);
     beside_an_absence(maker);
     lengths(maker);
+    ends(maker);
 }
 
 fn contexts(maker: &mut Maker) {
@@ -162,6 +163,21 @@ and both: 38, also where the update would be refused",
             call.predictors.resize(predictors, 0);
             call.length = length;
             maker.update_for(NO_MEANING, &call);
+        }
+    }
+}
+
+fn ends(maker: &mut Maker) {
+    maker.list.group(
+        "updates, f. predictors at the ends of 32 bits, and around 0, at every place: copied, and refused",
+    );
+    for first in 0..ENDS.len() {
+        let numbers = ENDS.into_iter().cycle().skip(first).take(8);
+        let bytes: Vec<u8> = numbers.flat_map(i32::to_le_bytes).collect();
+        for (number, numbers) in [(ACCEPTED, FORWARD), (ACCEPTED, INTRA), REFUSED[5]] {
+            let mut call = maker.update_of(numbers);
+            call.predictors.clone_from(&bytes);
+            maker.update_for(number, &call);
         }
     }
 }

@@ -4,7 +4,8 @@ use oracle::pmv::Component;
 use oracle::refusals::{ACCEPTED, NO_MEANING};
 
 use super::cases::{
-    COMPONENTS, DIRECTIONS, INDEXES, PREDICTORS, Part, VECTOR, VectorCall, place, predictor_bytes,
+    COMPONENTS, DIRECTIONS, ENDS, INDEXES, PREDICTORS, Part, VECTOR, VectorCall, place,
+    predictor_bytes,
 };
 use super::{Maker, strays};
 
@@ -195,6 +196,7 @@ pub fn groups(maker: &mut Maker) {
     lengths(maker);
     beside_an_absence(maker);
     drawn(maker);
+    ends(maker);
 }
 
 fn document_01(maker: &mut Maker) {
@@ -465,6 +467,27 @@ fn drawn(maker: &mut Maker) {
             _ => {}
         }
         maker.vector(&call);
+    }
+}
+
+fn ends(maker: &mut Maker) {
+    maker.list.group(
+        "vectors, k. predictors at the ends of 32 bits, and around 0, of either part and halved: no sum
+overflows",
+    );
+    for end in ENDS {
+        for (mode, t) in [
+            ((1, 2), Component::Horizontal),
+            ((1, 2), Component::Vertical),
+            (HALVING, Component::Vertical),
+        ] {
+            let parts = [maker.draw_predicted(), maker.draw_predicted()];
+            let (r, s) = maker.draw_slot();
+            let mut call = maker.call_of((r, s), mode, parts);
+            let from = place(INDEXES[r as usize], DIRECTIONS[s as usize], t);
+            call.predictors[from..from + 4].copy_from_slice(&end.to_le_bytes());
+            maker.vector(&call);
+        }
     }
 }
 
