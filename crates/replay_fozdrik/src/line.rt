@@ -14,7 +14,7 @@ pub struct Judged {
 }
 
 /// A case whose numbers were read.
-pub fn if_read(j: Judged, good: bool) -> Judged {
+pub(crate) fn if_read(j: Judged, good: bool) -> Judged {
     Judged {
         agrees: j.agrees,
         next: j.next,
@@ -44,7 +44,7 @@ fn store(n: &mut [i64; 40], i: usize, v: i64) {
 }
 
 /// Reads the numbers whose types `form` gives, a letter each.
-pub fn read_numbers(s: &[u8], at: usize, form: &[u8], n: &mut [i64; 40]) -> Read {
+pub(crate) fn read_numbers(s: &[u8], at: usize, form: &[u8], n: &mut [i64; 40]) -> Read {
     let mut next = at;
     let mut good = form.len() <= 40;
     let mut i: usize = 0;
@@ -69,7 +69,7 @@ fn number_at(n: &[i64; 40], i: usize) -> i64 {
     0
 }
 
-pub fn u32_at(n: &[i64; 40], i: usize) -> u32 {
+pub(crate) fn u32_at(n: &[i64; 40], i: usize) -> u32 {
     let v = lists::size_of(number_at(n, i));
     if v > 4294967295 {
         return 4294967295;
@@ -77,21 +77,21 @@ pub fn u32_at(n: &[i64; 40], i: usize) -> u32 {
     v as u32
 }
 
-pub fn i32_at(n: &[i64; 40], i: usize) -> i32 {
+pub(crate) fn i32_at(n: &[i64; 40], i: usize) -> i32 {
     lists::i32_of(number_at(n, i))
 }
 
-pub fn byte_at(n: &[i64; 40], i: usize) -> u8 {
+pub(crate) fn byte_at(n: &[i64; 40], i: usize) -> u8 {
     lists::byte_of(number_at(n, i))
 }
 
-pub fn size_at(n: &[i64; 40], i: usize) -> usize {
+pub(crate) fn size_at(n: &[i64; 40], i: usize) -> usize {
     lists::size_of(number_at(n, i))
 }
 
 /// Whether the first bytes of `room`, which were lent, are as listed: an empty AFTER stands for what they were before, which is in `kept`. Those
 /// behind them were not lent, and have to be what they were.
-pub fn is_as_listed(room: &[u8], kept: &[u8], length: usize, after: &[u8]) -> bool {
+pub(crate) fn is_as_listed(room: &[u8], kept: &[u8], length: usize, after: &[u8]) -> bool {
     let lent = lists::front(room, length);
     let behind = check::same(lists::behind(room, length), lists::behind(kept, length));
     if after.len() == 0 {

@@ -15,7 +15,7 @@ pub struct Planes {
     pub cr: Plane,
 }
 
-pub fn no_planes() -> Planes {
+pub(crate) fn no_planes() -> Planes {
     let plane = Plane {
         width: 0,
         height: 0,
@@ -45,7 +45,7 @@ fn plane_at(n: &[i64; 40], from: usize) -> Plane {
 }
 
 /// The planes of a line that sets them, which stand behind REFERENCE.
-pub fn planes_of(n: &[i64; 40]) -> Planes {
+pub(crate) fn planes_of(n: &[i64; 40]) -> Planes {
     Planes {
         y: plane_at(n, 1),
         cb: plane_at(n, 4),
@@ -63,7 +63,7 @@ fn sample_of(s: u64) -> u8 {
     (s / 65536 % 256) as u8
 }
 
-pub fn draw(samples: &mut [u8], seed: u64) {
+pub(crate) fn draw(samples: &mut [u8], seed: u64) {
     let mut s = seed;
     let mut i: usize = 0;
     while i < samples.len() {
@@ -73,18 +73,18 @@ pub fn draw(samples: &mut [u8], seed: u64) {
     }
 }
 
-pub fn y_of(planes: Planes, samples: &[u8]) -> &[u8] {
+pub(crate) fn y_of(planes: Planes, samples: &[u8]) -> &[u8] {
     let y = planes.y;
     lists::front(samples, y.length)
 }
 
-pub fn cb_of(planes: Planes, samples: &[u8]) -> &[u8] {
+pub(crate) fn cb_of(planes: Planes, samples: &[u8]) -> &[u8] {
     let y = planes.y;
     let cb = planes.cb;
     lists::front(lists::behind(samples, y.length), cb.length)
 }
 
-pub fn cr_of(planes: Planes, samples: &[u8]) -> &[u8] {
+pub(crate) fn cr_of(planes: Planes, samples: &[u8]) -> &[u8] {
     let y = planes.y;
     let cb = planes.cb;
     let cr = planes.cr;
@@ -95,7 +95,7 @@ pub fn cr_of(planes: Planes, samples: &[u8]) -> &[u8] {
 }
 
 /// Whether the buffer has room for the samples of all three.
-pub fn has_room(planes: Planes, samples: &[u8]) -> bool {
+pub(crate) fn has_room(planes: Planes, samples: &[u8]) -> bool {
     let y = planes.y;
     let cb = planes.cb;
     let cr = planes.cr;

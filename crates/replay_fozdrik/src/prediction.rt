@@ -206,7 +206,7 @@ fn compared(
 
 /// `WIDTH HEIGHT CHROMA MB_COL MB_ROW`, `PRESENT WIDTH HEIGHT CHROMA` of each reference, `PRESENT HORIZONTAL VERTICAL` of each direction,
 /// `FILL LENGTH ANSWER AFTER`.
-pub fn frame_case(
+pub(crate) fn frame_case(
     s: &[u8],
     at: usize,
     forward: Planes,
@@ -235,7 +235,7 @@ pub fn frame_case(
 }
 
 /// The same with `PRESENT FIELD HORIZONTAL VERTICAL FIELD HORIZONTAL VERTICAL` of each direction.
-pub fn field_case(
+pub(crate) fn field_case(
     s: &[u8],
     at: usize,
     forward: Planes,

@@ -192,7 +192,7 @@ fn lent(
 }
 
 /// `R S CODE PRESENT RESIDUAL CODE PRESENT RESIDUAL F_CODE F_CODE FORMAT STRUCTURE FILL LENGTH ANSWER BEFORE AFTER VECTOR`.
-pub fn vector_case(s: &[u8], at: usize) -> Judged {
+pub(crate) fn vector_case(s: &[u8], at: usize) -> Judged {
     let mut n = [0i64; 40];
     let read = read_numbers(s, at, b"uuiubiubbbuubsu", &mut n);
     if_read(
@@ -210,7 +210,7 @@ pub fn vector_case(s: &[u8], at: usize) -> Judged {
 }
 
 /// `STRUCTURE PRESENT TYPE FORWARD BACKWARD INTRA CONCEALMENT FILL LENGTH ANSWER BEFORE AFTER OUTCOME`.
-pub fn update_case(s: &[u8], at: usize) -> Judged {
+pub(crate) fn update_case(s: &[u8], at: usize) -> Judged {
     let mut n = [0i64; 40];
     let read = read_numbers(s, at, b"uuuuuuubsu", &mut n);
     if_read(
