@@ -307,6 +307,16 @@ pub spread-none : (read : ℤ → ℤ → ℕ) (x y : ℤ) → spread read x y 0
 unfolding spread
 spread-none read x y = rw (plus-none x, plus-none y) (mean4-same (read x y))
 
+-- what is read in a row, in clamped columns, is what the view reads there, if there is no half
+pub copied-cells : {s : List ℕ} {w first step count : ℕ} (f : ViewFits s w first step count) (y : ℤ) {a : ℕ}
+    → (p : a ≡ lineStart first step w (clampTo count y)) (x : ℤ) (k : ℕ)
+    → (let row = take (a + w - a) (drop a s) in getD row (columnAt (length row) x k) 0 ≡ lineCell s w first step count x y 0 0 k)
+unfolding columnAt lineCell viewRead
+copied-cells {s} {w} {first} {step} {count} f y {a} p x k =
+    let here = clamp-lt w (x +ℤ pos k) (f .some) in
+    rw (clamped-length f y p, part-at s a (a + w) (clampTo w (x +ℤ pos k)) (omega arith), p)
+    (sym (spread-none (viewRead s w first step count) (x +ℤ pos k) y))
+
 pub plain-block : (read : ℤ → ℤ → ℕ) (x y : ℤ) (bw bh : ℕ)
     → blockOf bw bh read x y ≡ blockOf bw bh (λ (a b : ℤ). spread read a b 0 0) x y
 plain-block read x y bw bh = block-ext bw bh _ _ x y (λ a b. sym (spread-none read a b))

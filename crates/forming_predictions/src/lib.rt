@@ -1040,6 +1040,18 @@ fn clamped_row(row: &[u8], below: &[u8], x: i32, dx: usize, out: &mut [u8])
     }
 }
 
+/// A row of samples as they are, in the columns that x is clamped to.
+fn clamped_copy(row: &[u8], x: i32, out: &mut [u8])
+    requires { ⌜ (0 < length (now row)) × Reach x × (length (now out) ≤ 16) ⌝ }
+    ensures { λ r. ⌜ now (out .exit) ≡ tabulate (length (now (out .entry))) (λ (k : ℕ). getD (now (row .entry)) (columnAt (length (now (row .entry))) x k) 0) ⌝ }
+{
+    let mut k: usize = 0;
+    while k < out.len() {
+        out[k] = row[clamp_to(row.len(), shifted(x, k))];
+        k += 1;
+    }
+}
+
 /// A row of a block past an edge: the plane's rows that the two lines are clamped to are handed on as parts of its bytes.
 fn clamped_line(
     samples: &[u8],
@@ -1057,8 +1069,12 @@ fn clamped_line(
     ensures { λ r. ⌜ now (out .exit) ≡ tabulate (length (now (out .entry))) (lineCell (now (samples .entry)) width first step count x y dx dy) ⌝ }
 {
     let a = line_start(first, step, width, clamp_to(count, y));
-    let b = line_start(first, step, width, clamp_to(count, shifted(y, dy)));
     let e = a + width;
+    if dx + dy == 0 {
+        clamped_copy(&samples[a..e], x, out);
+        return;
+    }
+    let b = line_start(first, step, width, clamp_to(count, shifted(y, dy)));
     let f = b + width;
     clamped_row(&samples[a..e], &samples[b..f], x, dx, out);
 }
