@@ -1,8 +1,17 @@
 -- `avg4` meets its contract: the sums fit 16 bits, and the quarter of the last fits a byte and is the mean.
 -- Assumes nothing.
+use mathlib.Core.Path.{_≡_, refl}
+use mathlib.Core.Bool.{false}
+use mathlib.Core.List.{[]}
 use native.Mathlib.Omega.{arith}
+use Rattle.forming_predictions.specs.Undivided.{undivided}
+use Rattle.forming_predictions.proofs.avg4.Code as code
 use Rattle.forming_predictions.proofs.avg4.Statement.{statement}
 use Rattle.forming_predictions.proofs.avg4.Tie as tie
+
+-- the mean of four divides, and `undivided` sees it
+pub avg4-divides : undivided [] (code.function .body) ≡ false
+avg4-divides = refl
 
 add-result : tie.Need-add-result
 add-result c = omega arith
