@@ -14,6 +14,8 @@
 # make demonstration   build the Rattle program that shows the three lower layers one by one, proved, and run it
 # make plot            draw docs/drift.svg anew, from what the program run_drift prints
 # make forms-check     see that the lines which docs/DECISIONS.md gives for the scope's forms have them
+# make split-check     see that the vector split, and all that it calls, holds neither a division nor a remainder, by the code
+#                      that the compiler takes; and that this is noticed where it does
 # make test            the gate: prove everything from nothing, try the must-fail edits, run the programs
 # make differential    build the Rust original, and compare the port with it: see that the lists in the repository are its
 #                      answers (make lists-check); draw other lists, and replay them by the Rattle programs, every public
@@ -55,7 +57,7 @@ sources = crates.txt $(shell find $(addprefix crates/,$(1)) -name '*.rt' -o -nam
 .DELETE_ON_ERROR:
 
 .PHONY: all declarations symbols header-test example-check sanitize fuzz fuzz-check fuzz-coverage picture demonstration \
-	plot forms-check test differential lists-check replays compare lists mutate bench bench-counts clean
+	plot forms-check split-check test differential lists-check replays compare lists mutate bench bench-counts clean
 
 all: $(LIBRARY)
 	@mkdir -p build
@@ -263,6 +265,20 @@ plot:
 
 forms-check:
 	@awk -f docs/forms.awk docs/DECISIONS.md
+
+# the split of the crates here, and then with the remainder of must-fail/divided_split.edit in it
+SPLIT = forming_predictions::split_vector forming_predictions::split_component
+DIVIDED = build/divided
+split-check:
+	@mkdir -p build
+	@$(RT) mir forming_predictions >build/split.mir 2>build/split.log || { cat build/split.log; exit 1; }
+	@awk -v of='$(SPLIT)' -f docs/undivided.awk build/split.mir
+	@rm -rf $(DIVIDED) && mkdir $(DIVIDED) && cp -r crates crates.txt $(DIVIDED)
+	@awk -f docs/edited.awk crates/forming_predictions/must-fail/divided_split.edit crates/forming_predictions/src/lib.rt \
+		>$(DIVIDED)/crates/forming_predictions/src/lib.rt
+	@cd $(DIVIDED) && $(RT) mir forming_predictions >../divided.mir 2>../divided.log || { cat ../divided.log; exit 1; }
+	@awk -v of='$(SPLIT)' -f docs/undivided.awk build/divided.mir >build/divided.txt && { echo "a remainder is not noticed"; exit 1; }; \
+		grep -q 'is_half holds a division or a remainder' build/divided.txt && echo "noticed, where there is one: $$(cat build/divided.txt)"
 
 test:
 	@.ci/run

@@ -79,7 +79,7 @@ def spec_files(repository):
     for crate in CRATES:
         folder = os.path.join(repository, "crates", crate, "specs")
         for name in sorted(os.listdir(folder)):
-            if name.endswith(".antt") and name not in ("Lib.antt", "inner.antt"):
+            if name.endswith(".antt") and name not in ("Lib.antt", "inner.antt", "Undivided.antt"):
                 yield crate, name, read(os.path.join(folder, name))
 
 
