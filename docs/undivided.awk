@@ -1,31 +1,71 @@
-# Sees that a function and all that it calls hold neither a division nor a remainder, by the code that the compiler takes:
-# rt mir CRATE | awk -v of='CRATE::FUNCTION ..' -f docs/undivided.awk
+# Sees that a function and all that it calls hold neither a division nor a remainder: in the code that the compiler takes, and
+# in the text of the source, since the compiler computes constants and lengths of arrays before:
+# rt mir CRATE >MIR; awk -v of='CRATE::FUNCTION ..' -f docs/undivided.awk MIR SOURCE.rt ..
 
-{ text = text $0 }
+function fail(what) { print what; bad = 1 }
 
-# a function's text goes from its fn-def to the next one
+# how often a pattern is found
+function times(text, pattern) { return gsub(pattern, "&", text) }
+
+FNR == 1 { file = file + 1 }
+file == 1 { mir = mir " " $0; next }
+{ line[++lines] = $0 }
+
+# the operators, by their names: what is not known is refused
+function operators(name, rest,    op) {
+	while (match(rest, /\(op2 \(?[A-Za-z0-9]*/)) {
+		op = substr(rest, RSTART, RLENGTH)
+		rest = substr(rest, RSTART + RLENGTH)
+		sub(/\(op2 \(?/, "", op)
+		if (op ~ /^(div|rem)$/) fail(name " holds a division or a remainder")
+		else if (op !~ /^(add|sub|mul|and|or|xor|shl|shr|eq|ne|lt|le|offset)$/) fail(name " holds an operator that is not known, " op)
+	}
+}
+
+function calls(name, rest,    callee) {
+	if (times(rest, "\\([A-Za-z]*[cC]all") != times(rest, "\\(call \\(direct \\(fnRef \"") || rest ~ /\(foreign/)
+		fail(name " calls what cannot be told, or is no code of Rattle's")
+	while (match(rest, /\(fnRef "[^"]*"/)) {
+		callee = substr(rest, RSTART + 8, RLENGTH - 9)
+		rest = substr(rest, RSTART + RLENGTH)
+		if (!(callee in seen)) { seen[callee] = 1; wait[++waiting] = callee }
+	}
+}
+
+# the text of a function goes from its fn to the brace in the same column
+function source(name,    own, i, j, end, text) {
+	own = name
+	sub(/.*::/, "", own)
+	for (i = 1; i <= lines && line[i] !~ "^ *(pub |pub\\(crate\\) )?fn " own "\\("; i++);
+	if (i > lines) { fail(name ": its source was not given"); return }
+	end = line[i]
+	sub(/[^ ].*/, "}", end)
+	for (j = i; j <= lines && line[j] != end; j++) {
+		text = line[j]
+		sub(/\/\/.*/, "", text)
+		if (text ~ /[\/%]/) fail(name " has a division or a remainder in its text")
+		if (text ~ /[A-Z][A-Z0-9_]+| as /) fail(name " has a constant or a cast in its text, which cannot be told")
+	}
+}
+
 END {
-	count = split(text, part, /\(fn-def "/)
+	if (!sub(/\(fnRef "rt_empty::main"\)[^()]*$/, "", mir)) fail("the code is not whole")
+	count = split(mir, part, /\(fn-def "/)
 	for (i = 2; i <= count; i++) {
 		name = substr(part[i], 1, index(part[i], "\"") - 1)
+		if (name in code) fail(name " is there twice")
 		code[name] = part[i]
 	}
 	waiting = split(of, wait, " ")
 	for (i = 1; i <= waiting; i++) seen[wait[i]] = 1
 	for (i = 1; i <= waiting; i++) {
 		name = wait[i]
-		if (!(name in code)) { print name ": no such function"; bad = 1; continue }
-		if (code[name] ~ /\(op2 \((div|rem) |\(op2 float(Div|Rem) /) { print name " holds a division or a remainder"; bad = 1 }
-		rest = code[name]
-		while (match(rest, /\(call \(direct \(fnRef "[^"]*"/)) {
-			callee = substr(rest, RSTART, RLENGTH)
-			rest = substr(rest, RSTART + RLENGTH)
-			sub(/.*fnRef "/, "", callee); sub(/"$/, "", callee)
-			if (!(callee in seen)) { seen[callee] = 1; wait[++waiting] = callee }
-		}
-		if (code[name] ~ /\(call \([^d]/) { print name " calls what cannot be told"; bad = 1 }
+		if (!(name in code)) { fail(name ": no such function"); continue }
+		operators(name, code[name])
+		calls(name, code[name])
+		source(name)
 		listed = listed " " name
 	}
-	if (!bad) print "neither a division nor a remainder in" listed
+	if (!bad && waiting) print "neither a division nor a remainder in" listed
 	exit bad || !waiting
 }

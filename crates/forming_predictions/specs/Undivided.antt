@@ -1,5 +1,5 @@
 -- What it is for code to hold neither a division nor a remainder (docs/changes/07-halving.md). It is said of the code as the compiler takes it
--- (`rt mir`), which has each operator of the source. Nothing here is the standard's or the scope's.
+-- (`rt mir`), which has each operator that runs; constants and lengths of arrays are numbers there. Nothing here is the standard's or the scope's.
 -- The proofs of `split_vector`, `split_component`, `whole_part` and `is_half` each have `undivided` of the function's own code.
 use mathlib.Core.Bool.{Bool, true, false, not, _&&_, _||_}
 use mathlib.Core.List.{List, [], _∷_}
