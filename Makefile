@@ -266,7 +266,8 @@ plot:
 forms-check:
 	@awk -f docs/forms.awk docs/DECISIONS.md
 
-# the split as it is here; a mean of four, which divides; and the split with the division of must-fail/divided_split.edit in it
+# the split as it is here; then what has to be noticed: a mean of four, which divides; a constant in the split's text, which the
+# compiler would have computed; and the split with the division of must-fail/divided_split.edit in it
 SPLIT = forming_predictions::split_vector forming_predictions::split_component
 SPLIT_SOURCE = crates/forming_predictions/src/lib.rt
 DIVIDED = build/divided
@@ -277,6 +278,9 @@ split-check:
 	@$(UNDIVIDED) -v of='$(SPLIT)' build/split.mir $(SPLIT_SOURCE)
 	@! $(UNDIVIDED) -v of=forming_predictions::avg4 build/split.mir $(SPLIT_SOURCE) >build/divided.txt
 	@grep -q 'avg4 holds a division' build/divided.txt
+	@sed 's/^    vector >> 1$$/    vector >> one/' $(SPLIT_SOURCE) >build/named.rt
+	@! $(UNDIVIDED) -v of='$(SPLIT)' build/split.mir build/named.rt >build/divided.txt
+	@grep -q 'whole_part names one' build/divided.txt
 	@rm -rf $(DIVIDED) && mkdir $(DIVIDED) && cp -r crates crates.txt $(DIVIDED)
 	@awk -f docs/edited.awk crates/forming_predictions/must-fail/divided_split.edit $(SPLIT_SOURCE) >$(DIVIDED)/$(SPLIT_SOURCE)
 	@cd $(DIVIDED) && $(RT) mir forming_predictions >../divided.mir 2>../divided.log || { cat ../divided.log; exit 1; }

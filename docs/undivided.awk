@@ -32,20 +32,45 @@ function calls(name, rest,    callee) {
 	}
 }
 
-# the text of a function goes from its fn to the brace in the same column
-function source(name,    own, i, j, end, text) {
-	own = name
-	sub(/.*::/, "", own)
-	for (i = 1; i <= lines && line[i] !~ "^ *(pub |pub\\(crate\\) )?fn " own "\\("; i++);
+# Each word of a function's text is a keyword, a call, which is followed in the code, a type, or a name that the text itself gives to a
+# parameter, a field or a variable. What is neither could be a constant, which the compiler has computed.
+function words(name, text, own,    word, before, known) {
+	before = ""
+	while (match(text, /[A-Za-z_][A-Za-z0-9_]*/)) {
+		before = before substr(text, 1, RSTART - 1)
+		word = substr(text, RSTART, RLENGTH)
+		text = substr(text, RSTART + RLENGTH)
+		known = word ~ /^(fn|pub|let|mut|if|else|while|return|true|false)$/ || text ~ /^(\(|: )/ || before ~ /-> $/
+		known = known || before ~ /: $/ && word ~ /^(bool|[iu](8|16|32|64|size))$/ || before ~ /^ *$/ && text ~ /^ \{/
+		if (!known && !(word in own)) fail(name " names " word ", which cannot be told")
+		before = before word
+	}
+}
+
+# the text of a function goes from its fn to the brace in the same column, without comments and contracts
+function source(name,    plain, i, j, n, end, text, word, own, body) {
+	plain = name
+	sub(/.*::/, "", plain)
+	for (i = 1; i <= lines && line[i] !~ "^ *(pub |pub\\(crate\\) )?fn " plain "\\("; i++);
 	if (i > lines) { fail(name ": its source was not given"); return }
 	end = line[i]
 	sub(/[^ ].*/, "}", end)
 	for (j = i; j <= lines && line[j] != end; j++) {
+		if (line[j] ~ /^ *(requires|ensures) /) continue
 		text = line[j]
 		sub(/\/\/.*/, "", text)
 		if (text ~ /[\/%]/) fail(name " has a division or a remainder in its text")
-		if (text ~ /[A-Z][A-Z0-9_]+| as /) fail(name " has a constant or a cast in its text, which cannot be told")
+		body[++n] = text
+		# what it names itself
+		while (match(text, /let (mut )?[a-z_][a-z0-9_]*|[a-z_][a-z0-9_]*: /)) {
+			word = substr(text, RSTART, RLENGTH)
+			text = substr(text, RSTART + RLENGTH)
+			sub(/^let (mut )?/, "", word)
+			sub(/: $/, "", word)
+			own[word] = 1
+		}
 	}
+	for (j = 1; j <= n; j++) words(name, body[j], own)
 }
 
 END {
