@@ -1,5 +1,6 @@
 //! ISO/IEC 13818-2, 7.6.7: combining predictions. A macroblock that is predicted from two directions gets the mean of the two
 //! predictions, sample by sample; one that is predicted from one direction gets that prediction as it is.
+#![tactic(auto)]
 ghost use Rattle.std.specs.Prelude.{◌≡◌, length};
 ghost use Rattle.combine_predictions.specs.Refusals.{unlessRefused};
 ghost use Rattle.combine_predictions.specs.Averaging.{mean2, averaged, averageAnswer, number_of};
@@ -11,14 +12,14 @@ pub const WRONG_LENGTH: u8 = 18;
 pub const LENGTHS_DIFFER: u8 = 19;
 
 /// What averaging answers: the output is written, or the number of the refusal, which writes nothing.
-#[derive(Drop)]
+#[derive(Clone, Copy)]
 pub enum Averaged {
     Done,
     Refused(u8),
 }
 
 /// Which of the two predictions a macroblock with one direction has. A bidirectional one goes through `average_predictions`.
-#[derive(Drop)]
+#[derive(Clone, Copy)]
 pub enum PredictionDirection {
     Forward,
     Backward,

@@ -1,5 +1,6 @@
 //! Shows the three lower layers: vectors from the differences of a stream, and their predictors; blocks predicted from a small plane, of its
 //! frame and of a field; the mean of two predictions and a choice of one; and refusals.
+#![tactic(auto)]
 use combine_predictions::{Averaged, PredictionDirection};
 use forming_predictions::{BlockSize, FieldParity, FieldReference, Predicted, ReferencePlane};
 use libc::STDOUT_FILENO;

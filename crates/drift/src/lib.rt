@@ -1,9 +1,10 @@
 //! The drift figure: how far rounding may take the samples of a picture from those of the same steps with every mean exact.
+#![tactic(auto)]
 ghost use Rattle.std.specs.Prelude.{◌≡◌, ◌*◌};
 ghost use Rattle.drift.specs.Drift.{DriftWithin, DriftFigure};
 
 /// A bound in quarters of a grey step.
-#[derive(Drop)]
+#[derive(Clone, Copy)]
 pub struct DriftBound {
     pub above: u64,
     pub below: u64,

@@ -1,5 +1,6 @@
 //! ISO/IEC 13818-2, 7.6.4: forming predictions. A motion vector in half samples leads to one, two or four samples of a reference frame
 //! or field; a predicted sample is their rounded mean.
+#![tactic(auto)]
 ghost use Rattle.std.specs.Prelude.{◌≡◌, not, ◌||◌, ℕ, ◌+◌, ◌*◌, ◌/◌, ◌%◌, ◌≤◌, ◌<◌, ℤ, pos, ◌+ℤ◌, eqb, length, get_or};
 ghost use Rattle.laws.specs.Tabulate.{tabulate};
 ghost use Rattle.laws.proofs.Bounded.{Within};
@@ -32,7 +33,7 @@ pub const LAST_BLOCK: i32 = 32767;
 pub const LAST_SAMPLE: i32 = 32782;
 
 /// The four cases of half_flag\[0\], the horizontal one, and half_flag\[1\].
-#[derive(Drop)]
+#[derive(Clone, Copy)]
 pub enum HalfPattern {
     Integer,
     HalfHorizontal,
@@ -41,63 +42,63 @@ pub enum HalfPattern {
 }
 
 /// The flags of a pattern.
-#[derive(Drop)]
+#[derive(Clone, Copy)]
 pub struct HalfFlags {
     pub horizontal: bool,
     pub vertical: bool,
 }
 
 /// A component of a vector: whole samples, and whether a half is to be added.
-#[derive(Drop)]
+#[derive(Clone, Copy)]
 pub struct ComponentSplit {
     pub int_vec: i32,
     pub half_flag: bool,
 }
 
 /// A vector, split.
-#[derive(Drop)]
+#[derive(Clone, Copy)]
 pub struct SplitVector {
     pub horizontal: ComponentSplit,
     pub vertical: ComponentSplit,
 }
 
 /// The sides of a plane. Its samples, row after row, are passed beside it.
-#[derive(Drop)]
+#[derive(Clone, Copy)]
 pub struct ReferencePlane {
     pub width: usize,
     pub height: usize,
 }
 
 /// A field of a frame: the top field has rows 0, 2, 4 and so on, the bottom field rows 1, 3, 5.
-#[derive(Drop)]
+#[derive(Clone, Copy)]
 pub enum FieldParity {
     Top,
     Bottom,
 }
 
 /// A field of a plane that holds both fields, row by row in turn.
-#[derive(Drop)]
+#[derive(Clone, Copy)]
 pub struct FieldReference {
     pub plane: ReferencePlane,
     pub parity: FieldParity,
 }
 
 /// The sides of a predicted block.
-#[derive(Drop)]
+#[derive(Clone, Copy)]
 pub struct BlockSize {
     pub width: usize,
     pub height: usize,
 }
 
 /// A sample, or the number of the refusal.
-#[derive(Drop)]
+#[derive(Clone, Copy)]
 pub enum Sampled {
     Sample(u8),
     Refused(u8),
 }
 
 /// A block was written, or the number of the refusal, which writes nothing.
-#[derive(Drop)]
+#[derive(Clone, Copy)]
 pub enum Predicted {
     Done,
     Refused(u8),
@@ -105,7 +106,7 @@ pub enum Predicted {
 
 /// The rows of a plane that are read as lines: row `first`, then every `step`-th, `count` of them. A frame and its fields differ in these
 /// numbers alone.
-#[derive(Drop)]
+#[derive(Clone, Copy)]
 struct Rows {
     first: usize,
     step: usize,

@@ -7,7 +7,7 @@ use forming_predictions::{BlockSize, ReferencePlane};
 use pmv::kinds::ChromaFormat;
 
 /// What a frame declares.
-#[derive(Drop)]
+#[derive(Clone, Copy)]
 pub struct FrameGeometry {
     pub width: usize,
     pub height: usize,
@@ -15,7 +15,7 @@ pub struct FrameGeometry {
 }
 
 /// A frame: what it declares, and the sides that its planes have.
-#[derive(Drop)]
+#[derive(Clone, Copy)]
 pub struct FrameBuffer {
     pub geometry: FrameGeometry,
     pub y: ReferencePlane,
@@ -24,7 +24,7 @@ pub struct FrameBuffer {
 }
 
 /// A reference frame, where there is one.
-#[derive(Drop)]
+#[derive(Clone, Copy)]
 pub enum ReferenceFrame {
     Absent,
     Present(FrameBuffer),

@@ -1,5 +1,6 @@
 //! ISO/IEC 13818-2, 7.6.4 to 7.6.7: the prediction of a macroblock of a frame picture, frame-based and field-based, from one reference frame or
 //! two.
+#![tactic(auto)]
 
 /// Frames, and the sides of a macroblock's part in each of their planes.
 pub mod frames;

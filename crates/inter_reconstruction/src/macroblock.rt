@@ -44,7 +44,7 @@ const PREDICTED: u8 = 0;
 pub const LAST_CELL: usize = 1023;
 
 /// The macroblock was written, or the number of the refusal, which writes nothing.
-#[derive(Drop)]
+#[derive(Clone, Copy)]
 pub enum MacroblockPrediction {
     Done,
     Refused(u8),

@@ -9,70 +9,70 @@ use pmv::chroma::scale_chroma;
 use pmv::kinds::ChromaFormat;
 
 /// A vector in half samples.
-#[derive(Drop)]
+#[derive(Clone, Copy)]
 pub struct MotionVectorPel {
     pub horizontal: i32,
     pub vertical: i32,
 }
 
 /// A field's vector, which counts that field's lines, and the reference field that it reads: motion_vertical_field_select.
-#[derive(Drop)]
+#[derive(Clone, Copy)]
 pub struct FieldVector {
     pub vector: MotionVectorPel,
     pub reference_field: FieldParity,
 }
 
 /// A direction's two field vectors: for the macroblock's top field and for its bottom field.
-#[derive(Drop)]
+#[derive(Clone, Copy)]
 pub struct FieldVectorPair {
     pub top: FieldVector,
     pub bottom: FieldVector,
 }
 
 /// A direction's vector, where it has one.
-#[derive(Drop)]
+#[derive(Clone, Copy)]
 pub enum FrameDirection {
     Absent,
     Present(MotionVectorPel),
 }
 
 /// A direction's field vectors, where it has them.
-#[derive(Drop)]
+#[derive(Clone, Copy)]
 pub enum FieldDirection {
     Absent,
     Present(FieldVectorPair),
 }
 
 /// The vectors of a frame-based macroblock.
-#[derive(Drop)]
+#[derive(Clone, Copy)]
 pub struct FrameMotion {
     pub forward: FrameDirection,
     pub backward: FrameDirection,
 }
 
 /// The vectors of a field-based macroblock.
-#[derive(Drop)]
+#[derive(Clone, Copy)]
 pub struct FieldBasedMotion {
     pub forward: FieldDirection,
     pub backward: FieldDirection,
 }
 
 /// What one direction is predicted by.
-#[derive(Drop)]
+#[derive(Clone, Copy)]
 pub enum DirectionMotion {
     Frame(MotionVectorPel),
     Field(FieldVectorPair),
 }
 
 /// The same, where there is motion in that direction: the definitions speak of it.
-#[derive(Drop)]
+#[derive(Clone, Copy)]
 pub enum OptionDirectionMotion {
     None,
     Some(DirectionMotion),
 }
 
 /// The directions that a macroblock is predicted from, each with its motion.
-#[derive(Drop)]
+#[derive(Clone, Copy)]
 pub enum Uses {
     Forward(DirectionMotion),
     Backward(DirectionMotion),

@@ -17,7 +17,7 @@ use pmv::kinds::ChromaFormat;
 pub const ILL_FORMED: u8 = 20;
 
 /// The macroblock was placed, or the number of the refusal, which writes nothing.
-#[derive(Drop)]
+#[derive(Clone, Copy)]
 pub enum MacroblockPlacement {
     Done,
     Refused(u8),

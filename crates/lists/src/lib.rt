@@ -1,6 +1,7 @@
 //! Reads lists of cases: text with a case to a line, words between blanks, decimal numbers, hexadecimal byte strings, and comments
 //! that begin with a number sign. A reader takes the text and a place in it and answers with the place after what it read. It takes
 //! every place; where the word there is not what was asked for, `good` is false.
+#![tactic(auto)]
 ghost use Rattle.std.specs.Prelude.{◌≡◌, ◌+◌, ◌*◌, ◌^◌, ◌/◌, ◌≤◌, ◌<◌, min, pos, neg_ℤ, length, take, drop};
 ghost use Rattle.laws.specs.Tabulate.{tabulate};
 ghost use Rattle.lists.specs.Text.{inClass, runEnd, place, wordStart, wordEnd, word_at, lineEnds, next_at};
@@ -8,7 +9,7 @@ ghost use Rattle.lists.specs.Numbers.{digitOf, decimal, isNatural, naturalOf, is
 ghost use Rattle.lists.specs.ByteStrings.{hexOf, bytes_of, isBytes, stored, ramp, BytesAt};
 
 /// Classes of bytes.
-#[derive(Drop)]
+#[derive(Clone, Copy)]
 enum Class {
     Blank,
     Space,
@@ -19,7 +20,7 @@ enum Class {
 }
 
 /// What comes next in a list.
-#[derive(Drop)]
+#[derive(Clone, Copy)]
 pub enum Next {
     /// A case, at this place.
     Case(usize),
@@ -29,7 +30,7 @@ pub enum Next {
 }
 
 /// A number that was read, and the place after it.
-#[derive(Drop)]
+#[derive(Clone, Copy)]
 pub struct Number {
     pub value: i64,
     pub next: usize,
@@ -37,7 +38,7 @@ pub struct Number {
 }
 
 /// How many bytes were stored, and the place after them.
-#[derive(Drop)]
+#[derive(Clone, Copy)]
 pub struct Bytes {
     pub count: usize,
     pub next: usize,
@@ -45,20 +46,20 @@ pub struct Bytes {
 }
 
 /// The word at a place: s[from..end].
-#[derive(Drop)]
+#[derive(Clone, Copy)]
 struct Span {
     from: usize,
     end: usize,
 }
 
 /// A number without its place.
-#[derive(Drop)]
+#[derive(Clone, Copy)]
 struct Natural {
     value: u64,
     good: bool,
 }
 
-#[derive(Drop)]
+#[derive(Clone, Copy)]
 struct Signed {
     value: i64,
     good: bool,

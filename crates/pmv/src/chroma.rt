@@ -5,7 +5,7 @@ ghost use Rattle.pmv.specs.Chroma.{truncHalf, scaled};
 use crate::kinds::ChromaFormat;
 
 /// A luminance vector and the chrominance vector that it gives, in half samples of each.
-#[derive(Drop)]
+#[derive(Clone, Copy)]
 pub struct ScaledMotionVector {
     pub luma_horiz: i32,
     pub luma_vert: i32,

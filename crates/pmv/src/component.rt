@@ -23,21 +23,21 @@ pub const DELTA_OUTSIDE: u8 = 5;
 pub const VECTOR_OUTSIDE: u8 = 6;
 
 /// `motion_residual`, where it is there.
-#[derive(Drop)]
+#[derive(Clone, Copy)]
 pub enum MotionResidual {
     Absent,
     Present(u8),
 }
 
 /// A delta, or the number of the refusal.
-#[derive(Drop)]
+#[derive(Clone, Copy)]
 pub enum ComputedDelta {
     Delta(i32),
     Refused(u8),
 }
 
 /// The ends of the range of vectors, and how many numbers it has.
-#[derive(Drop)]
+#[derive(Clone, Copy)]
 pub struct VectorRange {
     pub low: i32,
     pub high: i32,
@@ -45,14 +45,14 @@ pub struct VectorRange {
 }
 
 /// A range, or the number of the refusal.
-#[derive(Drop)]
+#[derive(Clone, Copy)]
 pub enum FoundRange {
     Range(VectorRange),
     Refused(u8),
 }
 
 /// A component of a vector, the predictor to be stored, and what they were made of.
-#[derive(Drop)]
+#[derive(Clone, Copy)]
 pub struct ReconstructedComponent {
     pub vector_prime: i32,
     pub new_pmv: i32,
@@ -61,7 +61,7 @@ pub struct ReconstructedComponent {
 }
 
 /// A component, or the number of the refusal.
-#[derive(Drop)]
+#[derive(Clone, Copy)]
 pub enum Reconstructed {
     Component(ReconstructedComponent),
     Refused(u8),

@@ -6,56 +6,56 @@ ghost use Rattle.pmv.specs.Kinds.{componentNumber, directionNumber, directionFro
 use forming_predictions::FieldParity;
 
 /// `t` of Table 7-7.
-#[derive(Drop)]
+#[derive(Clone, Copy)]
 pub enum Component {
     Horizontal,
     Vertical,
 }
 
 /// `s` of Table 7-7.
-#[derive(Drop)]
+#[derive(Clone, Copy)]
 pub enum Direction {
     Forward,
     Backward,
 }
 
 /// A Direction, where a number means one.
-#[derive(Drop)]
+#[derive(Clone, Copy)]
 pub enum OptionDirection {
     None,
     Some(Direction),
 }
 
 /// `r` of Table 7-7: the first or the second vector of a macroblock in one direction.
-#[derive(Drop)]
+#[derive(Clone, Copy)]
 pub enum VectorIndex {
     First,
     Second,
 }
 
 /// A VectorIndex, where a number means one.
-#[derive(Drop)]
+#[derive(Clone, Copy)]
 pub enum OptionVectorIndex {
     None,
     Some(VectorIndex),
 }
 
 /// `mv_format`: whether a vector is one of fields or of frames.
-#[derive(Drop)]
+#[derive(Clone, Copy)]
 pub enum MvFormat {
     Field,
     Frame,
 }
 
 /// A MvFormat, where a number means one.
-#[derive(Drop)]
+#[derive(Clone, Copy)]
 pub enum OptionMvFormat {
     None,
     Some(MvFormat),
 }
 
 /// `picture_structure`.
-#[derive(Drop)]
+#[derive(Clone, Copy)]
 pub enum PictureStructure {
     TopField,
     BottomField,
@@ -63,14 +63,14 @@ pub enum PictureStructure {
 }
 
 /// A PictureStructure, where a number means one.
-#[derive(Drop)]
+#[derive(Clone, Copy)]
 pub enum OptionPictureStructure {
     None,
     Some(PictureStructure),
 }
 
 /// What `frame_motion_type` or `field_motion_type` selects: Tables 6-17 and 6-18.
-#[derive(Drop)]
+#[derive(Clone, Copy)]
 pub enum PredictionType {
     FieldBased,
     FrameBased,
@@ -79,21 +79,21 @@ pub enum PredictionType {
 }
 
 /// A PredictionType, where a number means one.
-#[derive(Drop)]
+#[derive(Clone, Copy)]
 pub enum OptionPredictionType {
     None,
     Some(PredictionType),
 }
 
 /// `frame_motion_type` or `field_motion_type`, where a macroblock has one.
-#[derive(Drop)]
+#[derive(Clone, Copy)]
 pub enum MotionType {
     Absent,
     Present(PredictionType),
 }
 
 /// `picture_coding_type`.
-#[derive(Drop)]
+#[derive(Clone, Copy)]
 pub enum PictureCodingType {
     Intra,
     Predictive,
@@ -102,7 +102,7 @@ pub enum PictureCodingType {
 }
 
 /// `chroma_format`.
-#[derive(Drop)]
+#[derive(Clone, Copy)]
 pub enum ChromaFormat {
     Yuv420,
     Yuv422,
@@ -110,21 +110,21 @@ pub enum ChromaFormat {
 }
 
 /// A ChromaFormat, where a number means one.
-#[derive(Drop)]
+#[derive(Clone, Copy)]
 pub enum OptionChromaFormat {
     None,
     Some(ChromaFormat),
 }
 
 /// A field's parity, where a number means one.
-#[derive(Drop)]
+#[derive(Clone, Copy)]
 pub enum OptionFieldParity {
     None,
     Some(FieldParity),
 }
 
 /// Yes or no, where a number means one.
-#[derive(Drop)]
+#[derive(Clone, Copy)]
 pub enum OptionFlag {
     None,
     Some(bool),

@@ -1,5 +1,6 @@
 //! ISO/IEC 13818-2, 7.6.3: motion vectors and their predictors. Differences of vectors are read from the stream; a vector is the sum of a
 //! difference and a predictor, wrapped into the range that f_code gives, and it becomes the predictor of the next one.
+#![tactic(auto)]
 
 /// What the calls choose by, with the numbers that C and the lists know them by.
 pub mod kinds;

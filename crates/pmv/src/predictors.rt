@@ -5,13 +5,13 @@ ghost use Rattle.pmv.specs.Predictors.{pmvIndex, predictor, stored, pair_of, pai
 use crate::kinds::{Component, Direction, VectorIndex};
 
 /// The eight predictors in half samples: PMV\[r\]\[s\]\[t\] is at 4r + 2s + t.
-#[derive(Drop)]
+#[derive(Clone, Copy)]
 pub struct Pmv {
     pub values: [i32; 8],
 }
 
 /// PMV\[r\]\[s\]\[1:0\]: the two predictors of one vector.
-#[derive(Drop)]
+#[derive(Clone, Copy)]
 pub struct PredictorPair {
     pub horizontal: i32,
     pub vertical: i32,

@@ -23,7 +23,7 @@ pub const DUAL_PRIME_FLAGS: u8 = 11;
 pub const NONE_ROW_FLAGS: u8 = 12;
 
 /// What Tables 7-10 and 7-11 choose by.
-#[derive(Drop)]
+#[derive(Clone, Copy)]
 pub struct PmvUpdateContext {
     pub picture_structure: PictureStructure,
     pub prediction_type: MotionType,
@@ -34,7 +34,7 @@ pub struct PmvUpdateContext {
 }
 
 /// Which row of the tables it was.
-#[derive(Drop)]
+#[derive(Clone, Copy)]
 pub enum PmvUpdateOutcome {
     /// Intra with concealment vectors: forward first to forward second.
     IntraConcealmentCopyForwardFirst,
@@ -53,21 +53,21 @@ pub enum PmvUpdateOutcome {
 }
 
 /// The row, or the number of the refusal.
-#[derive(Drop)]
+#[derive(Clone, Copy)]
 pub enum Updated {
     Outcome(PmvUpdateOutcome),
     Refused(u8),
 }
 
 /// The answer, and the predictors after the update.
-#[derive(Drop)]
+#[derive(Clone, Copy)]
 pub struct PredictorUpdate {
     pub answer: Updated,
     pub pmv: Pmv,
 }
 
 /// Whether the reset was made, and the predictors after it.
-#[derive(Drop)]
+#[derive(Clone, Copy)]
 pub struct SpatialTemporalReset {
     pub applied: bool,
     pub pmv: Pmv,

@@ -14,7 +14,7 @@ use crate::kinds::{Component, Direction, MvFormat, PictureStructure, VectorIndex
 use crate::predictors::{Pmv, PredictorPair};
 
 /// What the stream has of a vector: a motion_code and a motion_residual for each component.
-#[derive(Drop)]
+#[derive(Clone, Copy)]
 pub struct MotionVector {
     pub motion_code_horiz: i32,
     pub motion_residual_horiz: MotionResidual,
@@ -23,35 +23,35 @@ pub struct MotionVector {
 }
 
 /// The answer for a component, and the predictors after it.
-#[derive(Drop)]
+#[derive(Clone, Copy)]
 pub struct DecodedComponent {
     pub answer: Reconstructed,
     pub pmv: Pmv,
 }
 
 /// Both components of a vector.
-#[derive(Drop)]
+#[derive(Clone, Copy)]
 pub struct VectorComponents {
     pub horizontal: ReconstructedComponent,
     pub vertical: ReconstructedComponent,
 }
 
 /// A vector, or the number of the refusal.
-#[derive(Drop)]
+#[derive(Clone, Copy)]
 pub enum ReconstructedVector {
     Components(VectorComponents),
     Refused(u8),
 }
 
 /// The answer for a vector, and its two predictors after it.
-#[derive(Drop)]
+#[derive(Clone, Copy)]
 pub struct DecodedPair {
     pub answer: ReconstructedVector,
     pub predictors: PredictorPair,
 }
 
 /// The answer for a vector, and all predictors after it.
-#[derive(Drop)]
+#[derive(Clone, Copy)]
 pub struct DecodedVector {
     pub answer: ReconstructedVector,
     pub pmv: Pmv,

@@ -1,11 +1,12 @@
 //! Replays the averaging list, which has the Rust's answers, on `combine_predictions`. The list's head says what its fields mean.
+#![tactic(auto)]
 use combine_predictions::{Averaged, PredictionDirection};
 use libc::{STDIN_FILENO, STDOUT_FILENO};
 use lists::Next;
 use tally::Tally;
 
 /// A case that was read: whether the port agrees with the list, the place after the case, and whether the line was well formed.
-#[derive(Drop)]
+#[derive(Clone, Copy)]
 struct Judged {
     agrees: bool,
     next: usize,

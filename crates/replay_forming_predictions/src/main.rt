@@ -1,4 +1,5 @@
 //! Replays the forming list, which has the Rust's answers, on `forming_predictions`. The list's head says what its fields mean.
+#![tactic(auto)]
 use forming_predictions::{
     BlockSize, FieldParity, FieldReference, HalfPattern, Predicted, ReferencePlane, Sampled,
 };
@@ -7,7 +8,7 @@ use lists::Next;
 use tally::Tally;
 
 /// A case that was read: whether the port agrees with the list, the place after the case, and whether the line was well formed.
-#[derive(Drop)]
+#[derive(Clone, Copy)]
 struct Judged {
     agrees: bool,
     next: usize,
@@ -15,7 +16,7 @@ struct Judged {
 }
 
 /// The plane that cases read: its sides, and how many samples of the buffer it has.
-#[derive(Drop)]
+#[derive(Clone, Copy)]
 struct Plane {
     width: usize,
     height: usize,
@@ -23,7 +24,7 @@ struct Plane {
 }
 
 /// A plane that was read.
-#[derive(Drop)]
+#[derive(Clone, Copy)]
 struct Setting {
     plane: Plane,
     next: usize,
@@ -31,13 +32,13 @@ struct Setting {
 }
 
 /// The same, for a plane of growing bytes, and the first of them.
-#[derive(Drop)]
+#[derive(Clone, Copy)]
 struct Ramp {
     setting: Setting,
     first: u8,
 }
 
-#[derive(Drop)]
+#[derive(Clone, Copy)]
 struct Stepped {
     tally: Tally,
     plane: Plane,

@@ -1,14 +1,14 @@
 //! The numbers of a line, as the entry points take them, and what stands in a buffer after a call.
 
 /// The place after the numbers of a line, and whether they are there and such as the line's kind has.
-#[derive(Drop)]
+#[derive(Clone, Copy)]
 pub struct Read {
     pub next: usize,
     pub good: bool,
 }
 
 /// A case that was read: whether the port agrees with the list, the place after the case, and whether the line was well formed.
-#[derive(Drop)]
+#[derive(Clone, Copy)]
 pub struct Judged {
     pub agrees: bool,
     pub next: usize,

@@ -1,4 +1,5 @@
 //! Replays the list of the four C entry points on `fozdrik`. The list's head says what its fields mean.
+#![tactic(auto)]
 use crate::line::Judged;
 use crate::planes::Planes;
 use libc::{STDIN_FILENO, STDOUT_FILENO};
@@ -10,7 +11,7 @@ mod planes;
 mod prediction;
 mod vectors;
 
-#[derive(Drop)]
+#[derive(Clone, Copy)]
 struct Stepped {
     tally: Tally,
     forward: Planes,

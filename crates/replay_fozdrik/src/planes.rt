@@ -2,7 +2,7 @@
 use crate::line::size_at;
 
 /// A plane: its sides, and how many samples it has.
-#[derive(Drop)]
+#[derive(Clone, Copy)]
 pub struct Plane {
     pub width: usize,
     pub height: usize,
@@ -10,7 +10,7 @@ pub struct Plane {
 }
 
 /// The planes of a reference. Their samples stand one after the other in one buffer.
-#[derive(Drop)]
+#[derive(Clone, Copy)]
 pub struct Planes {
     pub y: Plane,
     pub cb: Plane,

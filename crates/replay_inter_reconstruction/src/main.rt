@@ -1,4 +1,5 @@
 //! Replays the macroblocks list, which has the Rust's answers, on `inter_reconstruction`. The list's head says what its fields mean.
+#![tactic(auto)]
 ghost use Rattle.std.specs.Prelude.{◌≤◌};
 
 use forming_predictions::ReferencePlane;
@@ -14,7 +15,7 @@ use pmv::kinds::{ChromaFormat, OptionChromaFormat, OptionFieldParity, OptionFlag
 use tally::Tally;
 
 /// A case that was read: whether the port agrees with the list, the place after the case, and whether the line was well formed.
-#[derive(Drop)]
+#[derive(Clone, Copy)]
 struct Judged {
     agrees: bool,
     next: usize,
@@ -22,21 +23,21 @@ struct Judged {
 }
 
 /// Whether the port agrees with the numbers of a line, and whether they are such as the line's kind has.
-#[derive(Drop)]
+#[derive(Clone, Copy)]
 struct Verdict {
     agrees: bool,
     good: bool,
 }
 
 /// The place after the numbers of a line, and whether all of them are there.
-#[derive(Drop)]
+#[derive(Clone, Copy)]
 struct Read {
     next: usize,
     good: bool,
 }
 
 /// A plane that cases read: its sides, and how many samples it has.
-#[derive(Drop)]
+#[derive(Clone, Copy)]
 struct Plane {
     width: usize,
     height: usize,
@@ -44,14 +45,14 @@ struct Plane {
 }
 
 /// The planes of a reference. Their samples stand one after the other in one buffer.
-#[derive(Drop)]
+#[derive(Clone, Copy)]
 struct Planes {
     y: Plane,
     cb: Plane,
     cr: Plane,
 }
 
-#[derive(Drop)]
+#[derive(Clone, Copy)]
 struct Stepped {
     tally: Tally,
     forward: Planes,
@@ -59,49 +60,49 @@ struct Stepped {
 }
 
 /// What a macroblock is predicted by, which tells the call too.
-#[derive(Drop)]
+#[derive(Clone, Copy)]
 enum Motion {
     Frame(FrameMotion),
     Field(FieldBasedMotion),
 }
 
 /// A FrameGeometry, where three numbers mean one.
-#[derive(Drop)]
+#[derive(Clone, Copy)]
 enum OptionGeometry {
     None,
     Some(FrameGeometry),
 }
 
 /// A ReferenceFrame, where four numbers mean one.
-#[derive(Drop)]
+#[derive(Clone, Copy)]
 enum OptionReference {
     None,
     Some(ReferenceFrame),
 }
 
 /// A FrameDirection, where three numbers mean one.
-#[derive(Drop)]
+#[derive(Clone, Copy)]
 enum OptionFrameDirection {
     None,
     Some(FrameDirection),
 }
 
 /// A FieldVector, where three numbers mean one.
-#[derive(Drop)]
+#[derive(Clone, Copy)]
 enum OptionFieldVector {
     None,
     Some(FieldVector),
 }
 
 /// A FieldDirection, where seven numbers mean one.
-#[derive(Drop)]
+#[derive(Clone, Copy)]
 enum OptionFieldDirection {
     None,
     Some(FieldDirection),
 }
 
 /// A Motion, where the numbers of a line mean one.
-#[derive(Drop)]
+#[derive(Clone, Copy)]
 enum OptionMotion {
     None,
     Some(Motion),

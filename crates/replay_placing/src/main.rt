@@ -1,5 +1,6 @@
 //! Replays the placing list on `place_macroblock`. Its answers are those of an account of placing by the words of docs/SCOPE.md, since the Rust
 //! has no such call. The list's head says what its fields mean.
+#![tactic(auto)]
 ghost use Rattle.std.specs.Prelude.{◌≤◌};
 
 use forming_predictions::ReferencePlane;
@@ -19,7 +20,7 @@ const MOST_SAMPLES: usize = 262400;
 const MOST_BYTES: usize = 1024;
 
 /// A case that was read: whether the port agrees with the list, the place after the case, and whether the line was well formed.
-#[derive(Drop)]
+#[derive(Clone, Copy)]
 struct Judged {
     agrees: bool,
     next: usize,
@@ -27,21 +28,21 @@ struct Judged {
 }
 
 /// Whether the port agrees with the numbers of a line, and whether they are such as a line has.
-#[derive(Drop)]
+#[derive(Clone, Copy)]
 struct Verdict {
     agrees: bool,
     good: bool,
 }
 
 /// The place after the numbers of a line, and whether all of them are there.
-#[derive(Drop)]
+#[derive(Clone, Copy)]
 struct Read {
     next: usize,
     good: bool,
 }
 
 /// How many bytes there are to place, and how many samples each plane has.
-#[derive(Drop)]
+#[derive(Clone, Copy)]
 struct Lengths {
     bytes: usize,
     y: usize,
@@ -50,7 +51,7 @@ struct Lengths {
 }
 
 /// What the list has for a call: the answer's number, and the numbers that tell the planes.
-#[derive(Drop)]
+#[derive(Clone, Copy)]
 struct Listed {
     answer: i64,
     y: u64,

@@ -1,5 +1,6 @@
 //! Replays the vectors list, which has the Rust's answers, on `pmv`. The list's head says what its fields mean. One record of predictors is
 //! lent from line to line, to the calls of `pmv::lent`; all other lines bring their own.
+#![tactic(auto)]
 ghost use Rattle.std.specs.Prelude.{◌≤◌};
 
 use libc::{STDIN_FILENO, STDOUT_FILENO};
@@ -22,7 +23,7 @@ use pmv::vector::{MotionVector, ReconstructedVector, VectorComponents};
 use tally::Tally;
 
 /// What a line asks `decode_motion_vector` about.
-#[derive(Drop)]
+#[derive(Clone, Copy)]
 struct ComponentAsked {
     r: VectorIndex,
     s: Direction,
@@ -34,7 +35,7 @@ struct ComponentAsked {
 }
 
 /// What a line asks `reconstruct_motion_vector` about.
-#[derive(Drop)]
+#[derive(Clone, Copy)]
 struct VectorAsked {
     mv: MotionVector,
     r: VectorIndex,
@@ -47,14 +48,14 @@ struct VectorAsked {
 }
 
 /// What a line asks `update_predictors` about.
-#[derive(Drop)]
+#[derive(Clone, Copy)]
 struct UpdateAsked {
     ctx: PmvUpdateContext,
     good: bool,
 }
 
 /// What a line asks `apply_spatial_temporal_reset` about.
-#[derive(Drop)]
+#[derive(Clone, Copy)]
 struct ResetAsked {
     picture_coding_type: PictureCodingType,
     spatial_temporal_weight_class: u8,
@@ -62,7 +63,7 @@ struct ResetAsked {
 }
 
 /// What a line asks `Pmv::get` and `Pmv::set` about.
-#[derive(Drop)]
+#[derive(Clone, Copy)]
 struct PlaceAsked {
     r: VectorIndex,
     s: Direction,
@@ -72,7 +73,7 @@ struct PlaceAsked {
 }
 
 /// A line of the list.
-#[derive(Drop)]
+#[derive(Clone, Copy)]
 struct Line {
     /// A case, and no comment and not the end of the list.
     case: bool,
@@ -93,42 +94,42 @@ struct Line {
 }
 
 /// Whether the port agrees with the numbers of a line, and whether they are such as the line's kind has.
-#[derive(Drop)]
+#[derive(Clone, Copy)]
 struct Verdict {
     agrees: bool,
     good: bool,
 }
 
 /// The place after the numbers of a line, and whether all of them are there.
-#[derive(Drop)]
+#[derive(Clone, Copy)]
 struct Read {
     next: usize,
     good: bool,
 }
 
 /// A Component, where a number means one.
-#[derive(Drop)]
+#[derive(Clone, Copy)]
 enum OptionComponent {
     None,
     Some(Component),
 }
 
 /// A PictureCodingType, where a number means one.
-#[derive(Drop)]
+#[derive(Clone, Copy)]
 enum OptionCodingType {
     None,
     Some(PictureCodingType),
 }
 
 /// A residual, where two numbers mean one.
-#[derive(Drop)]
+#[derive(Clone, Copy)]
 enum OptionResidual {
     None,
     Some(MotionResidual),
 }
 
 /// A motion type, where two numbers mean one.
-#[derive(Drop)]
+#[derive(Clone, Copy)]
 enum OptionMotionType {
     None,
     Some(MotionType),

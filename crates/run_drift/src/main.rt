@@ -4,6 +4,7 @@
 //!
 //! The functions promise nothing, and all but one take every input: an index is tested, and sums and products are kept from overflowing by
 //! remainders and by wrapping sums, which change nothing for the pictures at hand.
+#![tactic(auto)]
 ghost use Rattle.std.specs.Prelude.{◌≤◌};
 
 use drift::drift_bound;
@@ -24,7 +25,7 @@ use pmv::kinds::ChromaFormat;
 // ---- Nineteen pictures of 48 columns and 48 rows, 4:2:0. The planes of one component stand one after the other in one buffer.
 
 /// The planes of Cb and Cr have the same sides.
-#[derive(Drop)]
+#[derive(Clone, Copy)]
 enum Component {
     Luminance,
     Chrominance,
@@ -135,7 +136,7 @@ fn add(samples: &mut [u8], n: usize, x: usize, y: usize, by: u8) {
 
 // ---- Steps, and the three lists of them.
 
-#[derive(Drop)]
+#[derive(Clone, Copy)]
 enum Steps {
     Brighter,
     Unchanged,
@@ -144,7 +145,7 @@ enum Steps {
 
 /// A direction of a step: the number of its reference, where that is there, and its vectors, where it has motion: one for each of the
 /// macroblock's fields. A frame-based step goes by the first vector, and reads the frame.
-#[derive(Drop)]
+#[derive(Clone, Copy)]
 struct Direction {
     pub there: bool,
     pub picture: usize,
@@ -154,7 +155,7 @@ struct Direction {
 }
 
 /// The macroblock at this column and row of picture `target` is predicted and placed.
-#[derive(Drop)]
+#[derive(Clone, Copy)]
 struct Step {
     pub target: usize,
     pub field_based: bool,
@@ -170,7 +171,7 @@ fn joined(first: u64, second: u64, third: u64) -> u64 {
 }
 
 /// The number of a step in its list, counted from 0; the generator's state; what was drawn for the step.
-#[derive(Drop)]
+#[derive(Clone, Copy)]
 struct Draws {
     pub step: usize,
     pub state: u64,
@@ -505,7 +506,7 @@ fn take_step_by_calls(s: Step, y: &mut [u8], cb: &mut [u8], cr: &mut [u8]) -> u6
 // the code that forms blocks.
 
 /// The place of a sample.
-#[derive(Drop)]
+#[derive(Clone, Copy)]
 struct Place {
     x: usize,
     y: usize,
@@ -800,7 +801,7 @@ fn take_step_unrounded(s: Step, y: &mut [u64], cb: &mut [u64], cr: &mut [u64]) {
 // ---- How far the bytes lie from the unrounded samples, and what is printed of it.
 
 /// Steps by what came of them.
-#[derive(Drop)]
+#[derive(Clone, Copy)]
 struct Counts {
     pub accepted: u64,
     pub far: u64,
@@ -812,14 +813,14 @@ struct Counts {
 }
 
 /// The largest distances so far, in units: 8 to the power n of them to a grey step.
-#[derive(Drop)]
+#[derive(Clone, Copy)]
 struct Distances {
     above: u64,
     below: u64,
 }
 
 /// A quotient so far, and what is left to divide.
-#[derive(Drop)]
+#[derive(Clone, Copy)]
 struct Quotient {
     value: u64,
     rest: u64,

@@ -1,4 +1,5 @@
 //! The count that every replay keeps, and its report.
+#![tactic(auto)]
 ghost use Rattle.std.specs.Prelude.{◌≡◌};
 ghost use Rattle.tally.specs.Counts.{none, afterComment, afterCase, atEnd};
 
@@ -6,7 +7,7 @@ use libc::STDOUT_FILENO;
 
 /// The place in the list, the lines so far (comments and cases: a list has no empty line), the cases, those that agree, whether to go
 /// on, and whether the list is well formed so far.
-#[derive(Drop)]
+#[derive(Clone, Copy)]
 pub struct Tally {
     pub at: usize,
     pub lines: u64,
