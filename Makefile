@@ -39,7 +39,7 @@
 RT ?= rt
 CARGO ?= cargo
 
-LIBRARY = target/staticlib/libfozdrik.a
+LIBRARY = crates/fozdrik/out/libfozdrik.a
 # examples/c/NAME.c has to print examples/c/expected_NAME.txt; each is given the file for a picture, if it makes one
 EXAMPLES = example moving_picture
 PICTURE = build/plate.pgm
@@ -48,7 +48,7 @@ STRICT_FLAGS = $(C_FLAGS) -Wconversion -Wshadow
 STANDARDS = $(foreach standard,c99 c11 c17,'gcc -std=$(standard)' 'clang -std=$(standard)') \
 	$(foreach standard,c++11 c++17,'g++ -std=$(standard) -x c++' 'clang++ -std=$(standard) -x c++')
 
-# what a library is made of, by its crates, since rt staticlib proves its last crate anew each time it is asked
+# what a library is made of, by its crates: rt is asked only where a source has changed
 sources = crates.txt $(shell find $(addprefix crates/,$(1)) -name '*.rt' -o -name '*.antt')
 
 # two commands of rt in one folder would be in each other's way
@@ -70,10 +70,11 @@ all: $(LIBRARY)
 	done
 	@echo "the picture is $(PICTURE)"
 
-$(LIBRARY): $(call sources,laws combine_predictions forming_predictions pmv inter_reconstruction fozdrik)
+$(LIBRARY): $(call sources,laws combine_predictions forming_predictions pmv inter_reconstruction entry_points fozdrik)
 	@mkdir -p build
 	@echo "proving and building $(LIBRARY), which takes some minutes"
-	@$(RT) staticlib fozdrik >build/library.log 2>&1 || { tail -n 40 build/library.log; echo "all of it is in build/library.log"; exit 1; }
+	@(cd crates/fozdrik && $(RT) lib) >build/library.log 2>&1 || { tail -n 40 build/library.log; echo "all of it is in build/library.log"; exit 1; }
+	@touch $@
 
 declarations:
 	@mkdir -p build
@@ -257,8 +258,7 @@ picture: all
 
 demonstration:
 	@mkdir -p build
-	@$(RT) check demonstration >build/check.log 2>&1 || { tail -n 40 build/check.log; exit 1; }
-	@target/bin/demonstration
+	@cd crates/demonstration && $(RT) run 2>../../build/check.log || { tail -n 40 ../../build/check.log; exit 1; }
 
 plot:
 	awk -f docs/drift.awk crates/run_drift/stdout >docs/drift.svg
@@ -302,9 +302,13 @@ REPLAYS = $(addprefix replay_,combine_predictions forming_predictions pmv inter_
 
 replays:
 	@mkdir -p build
+	@mkdir -p build/bin
 	@echo "proving and building $(REPLAYS)"
-	@$(RT) check $(REPLAYS) >build/check.log 2>&1 || { tail -n 40 build/check.log; exit 1; }
-	cd differential && $(CARGO) run --release --offline --bin lists -- --replay ../target/bin \
+	@for name in $(REPLAYS); do \
+		(cd crates/$$name && $(RT) run <stdin) >build/$$name.txt 2>build/check.log || { tail -n 40 build/check.log; exit 1; }; \
+		cp crates/$$name/out/$$name build/bin/$$name || exit 1; \
+	done
+	cd differential && $(CARGO) run --release --offline --bin lists -- --replay ../build/bin \
 		$(if $(SEED),--seed $(SEED)) $(if $(ROUNDS),--rounds $(ROUNDS))
 
 compare: $(LIBRARY)
@@ -340,8 +344,8 @@ $(BENCH)/libbench_pmv.a: $(call sources,laws combine_predictions forming_predict
 $(BENCH)/libbench_%.a:
 	@mkdir -p $(BENCH)
 	@echo "proving and building $@"
-	@$(RT) staticlib bench_$* >build/bench.log 2>&1 || { tail -n 40 build/bench.log; exit 1; }
-	@cp target/staticlib/libbench_$*.a $@
+	@(cd crates/bench_$* && $(RT) lib) >build/bench.log 2>&1 || { tail -n 40 build/bench.log; exit 1; }
+	@cp crates/bench_$*/out/libbench_$*.a $@
 
 $(BENCH)/libcontestants.a: $(wildcard differential/c/*.[ch]) include/fozdrik.h
 	@mkdir -p $(BENCH)
@@ -369,4 +373,4 @@ ifdef ACCEPT
 endif
 
 clean:
-	rm -rf build target
+	rm -rf build target crates/*/out

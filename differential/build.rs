@@ -43,7 +43,7 @@ const LINKED: [Linked; 2] = [
     Linked {
         binary: "compare",
         feature: "CARGO_FEATURE_COMPARE",
-        default: "target/staticlib",
+        default: "crates/fozdrik/out",
         files: &["libfozdrik.a"],
     },
 ];
