@@ -191,8 +191,17 @@ static void expect_update(const struct a_case *c, struct answer *right)
 
 /* ---- macroblocks */
 
+/* With motion in both directions and one reference, that one alone is used. */
+static int one_of_two(const struct a_case *c)
+{
+    return c->motion[0].present && c->motion[1].present && c->references[0].present != c->references[1].present;
+}
+
 int direction_used(const struct a_case *c, int direction)
 {
+    if (one_of_two(c) && WRONG != ONE_OF_TWO_REFUSED) {
+        return c->references[direction].present != 0;
+    }
     return c->motion[direction].present != 0 || (direction == 0 && c->motion[1].present == 0);
 }
 
@@ -362,7 +371,7 @@ static int64_t scaled(int64_t number, int64_t divisor)
 /* A component of a macroblock by one direction; out is its first sample. */
 static void expect_direction(const struct a_case *c, int i, int j, int columns, int rows, uint8_t *out)
 {
-    const struct motion *motion = &c->motion[i];
+    const struct motion *motion = &c->motion[one_of_two(c) && WRONG == OTHER_VECTOR_OF_TWO ? 1 - i : i];
     struct fozdrik_field_vector zero[2] = {{FOZDRIK_TOP, {0, 0}}, {FOZDRIK_BOTTOM, {0, 0}}};
     const struct fozdrik_field_vector *vectors = motion->present ? motion->vectors : zero;
     int64_t left = (int64_t)c->column * columns;

@@ -130,7 +130,8 @@ enum fozdrik_outcome {
 /* What the four calls return: 0, or one of these. Each call's comment has the order in which it tests.
  *
  * stream: the bits of a damaged or cut stream can lead there, though the program is right. After 1, 5 and 11 conceal what
- * is left of the slice, and go on at the next one; after 16 and 17 drop the picture. caller: the program is wrong.
+ * is left of the slice, and go on at the next one; after 16 and 17 drop the picture. Where a macroblock has both
+ * directions and one reference is there, neither comes: it is predicted from that one. caller: the program is wrong.
  * docs/C-INTERFACE.md says more of each.
  */
 enum fozdrik_refusal {
@@ -156,8 +157,9 @@ enum fozdrik_refusal {
     FOZDRIK_CELL_TOO_FAR = 13,     /* caller: mb_col or mb_row is over 1,023 */
     FOZDRIK_OUTSIDE_DOMAIN = 14,   /* caller: a plane's length is not width * height, or a side is over 16,384 */
     FOZDRIK_OTHER_GEOMETRY = 15,   /* caller: a reference declares another width, height or format than the picture */
-    FOZDRIK_FORWARD_MISSING = 16,  /* stream (a start, a switch): the forward reference is used, and absent */
-    FOZDRIK_BACKWARD_MISSING = 17, /* stream (a start, a switch): the backward reference is used, and absent */
+    FOZDRIK_FORWARD_MISSING = 16,  /* stream (a start, a switch): the forward reference is used, and absent; or both
+                                      directions are, and both references absent */
+    FOZDRIK_BACKWARD_MISSING = 17, /* stream (a start, a switch): backward motion alone, and that reference absent */
     FOZDRIK_WRONG_LENGTH = 18,     /* caller: out is not of a macroblock's length */
 
     /* any call */
@@ -222,8 +224,9 @@ uint32_t fozdrik_update_predictors(
  * width, height and chroma_format are those of the picture that is being decoded; mb_col and mb_row count its
  * macroblocks. Then the two references: whether there is one, what it declares, the sides of its planes, and
  * their samples row after row without a gap. Then the vector of each direction, in half luminance samples; the
- * chrominance's is derived. Two directions are averaged. With no motion at all the zero vector is taken, from the
- * forward reference. What lies outside a plane is read as its nearest sample.
+ * chrominance's is derived. Two directions are averaged; where the reference of one of the two is absent, the other
+ * one alone is used, by its own vector. With no motion at all the zero vector is taken, from the forward reference.
+ * What lies outside a plane is read as its nearest sample.
  *
  * Planes have the coded size, whole macroblocks: 1,088 rows of luminance and not the 1,080 that are shown. With fewer,
  * the last row is read in place of those that are missing, and nothing is refused.

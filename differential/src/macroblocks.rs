@@ -98,12 +98,37 @@ pub enum Motion {
 }
 
 impl Motion {
-    /// The directions that are used by the scope's rule: it asks only these about 14.
+    /// What the scope's rule leaves of it, by whether the forward and the backward reference are
+    /// there: of two directions the one whose reference is there, where the other's is absent. The
+    /// original has no such rule, and is asked with what is left.
+    pub fn remaining(self, there: [bool; 2]) -> Self {
+        let moves = self.moves();
+        let left_out =
+            |direction: usize| moves == [true; 2] && !there[direction] && there[1 - direction];
+        match self {
+            Self::Frame(motion) => Self::Frame(FrameMotion {
+                forward: motion.forward.filter(|_| !left_out(0)),
+                backward: motion.backward.filter(|_| !left_out(1)),
+            }),
+            Self::Field(motion) => Self::Field(FieldBasedMotion {
+                forward: motion.forward.filter(|_| !left_out(0)),
+                backward: motion.backward.filter(|_| !left_out(1)),
+            }),
+        }
+    }
+
+    /// Which directions have motion.
+    fn moves(self) -> [bool; 2] {
+        match self {
+            Self::Frame(motion) => [motion.forward.is_some(), motion.backward.is_some()],
+            Self::Field(motion) => [motion.forward.is_some(), motion.backward.is_some()],
+        }
+    }
+
+    /// Whether a direction is used, of what is left, by the scope's rule: only of these it asks
+    /// about 14.
     pub fn uses(self, direction: Direction) -> bool {
-        let (forward, backward) = match self {
-            Self::Frame(motion) => (motion.forward.is_some(), motion.backward.is_some()),
-            Self::Field(motion) => (motion.forward.is_some(), motion.backward.is_some()),
-        };
+        let [forward, backward] = self.moves();
         match direction {
             Direction::Forward => forward || !backward,
             Direction::Backward => backward,
@@ -168,6 +193,7 @@ pub struct Question<'a> {
     pub references: ReferenceFrames<'a>,
     pub column: usize,
     pub row: usize,
+    /// What is left of it by the references (`Motion::remaining`).
     pub motion: Motion,
     /// Of the output.
     pub length: usize,
@@ -175,16 +201,31 @@ pub struct Question<'a> {
     pub in_domain: bool,
 }
 
-impl Question<'_> {
+impl<'a> Question<'a> {
     /// The original's answer: its three planes one after the other.
     pub fn ask_original(&self) -> Result<Vec<u8>, u8> {
+        self.ask_with(self.references)
+    }
+
+    /// The references that an accepted answer was formed from: 1 for the forward one, 2 for the
+    /// backward one, and both added. The original tells it by what it refuses without them.
+    pub fn used(&self) -> u8 {
+        let ReferenceFrames { forward, backward } = self.references;
+        let without = |references| u8::from(self.ask_with(references).is_err());
+        let without_forward = without(ReferenceFrames {
+            forward: None,
+            backward,
+        });
+        let without_backward = without(ReferenceFrames {
+            forward,
+            backward: None,
+        });
+        without_forward + 2 * without_backward
+    }
+
+    fn ask_with(&self, references: ReferenceFrames<'a>) -> Result<Vec<u8>, u8> {
         let dest = self.dest.frame();
-        let Self {
-            references,
-            column,
-            row,
-            ..
-        } = *self;
+        let Self { column, row, .. } = *self;
         let answer: InterResult<_> = match self.motion {
             Motion::Frame(motion) => {
                 predict_frame_macroblock_planes(&dest, references, column, row, motion)

@@ -324,16 +324,22 @@ static void field_macroblock(void)
     printf("  sum of all 384 samples %lu\n", sum_of(out, sizeof out));
 
     /* A null pointer says that there is no such picture. */
-    refusal = fozdrik_predict_field_based(&geometry, 1, 0, &forward, NULL, &motion, out, sizeof out);
-    printf("  without the backward picture: ");
+    refusal = fozdrik_predict_field_based(&geometry, 1, 0, NULL, NULL, &motion, out, sizeof out);
+    printf("  without both pictures: ");
     print_answer(refusal);
     printf("; the sum is still %lu\n", sum_of(out, sizeof out));
 
-    motion.backward_present = FOZDRIK_NO; /* what stands beside it then counts for nothing */
+    /* With one of them the macroblock is predicted from that one, by its own vectors. */
     refusal = fozdrik_predict_field_based(&geometry, 1, 0, &forward, NULL, &motion, out, sizeof out);
-    print_titled_answer("forward alone", refusal);
+    print_titled_answer("without the backward picture", refusal);
     print_row("row 0, top field", out, 16);
     print_row("row 1, bottom field", out + 16, 16);
+
+    motion.forward_present = FOZDRIK_NO; /* what stands beside it then counts for nothing */
+    refusal = fozdrik_predict_field_based(&geometry, 1, 0, &forward, NULL, &motion, out, sizeof out);
+    printf("  backward motion alone, without that picture: ");
+    print_answer(refusal);
+    printf("\n");
 }
 
 int main(void)

@@ -122,7 +122,8 @@ impl Macroblocks {
     }
 
     /// What the scope says. Of its order 38, 13, 18, 16, 17, 15, 14 the original has 16, 17 and
-    /// 15, and is asked for these and for the samples alone.
+    /// 15, and is asked for these and for the samples alone, with what the references leave of the
+    /// motion.
     fn expected(&mut self, scene: &mut Scene, case: &Case) -> Result<Vec<u8>, u8> {
         let strays = without_meaning(&case.meaning());
         if !strays.is_empty() {
@@ -130,13 +131,14 @@ impl Macroblocks {
             return Err(NO_MEANING);
         }
         let read = case.read();
-        let in_domain = scene.in_domain(read.motion);
+        let motion = read.remaining();
+        let in_domain = scene.in_domain(motion);
         let question = Question {
             dest: read.dest,
             references: scene.declare(read.references),
             column: case.column,
             row: case.row,
-            motion: read.motion,
+            motion,
             length: case.length,
             in_domain,
         };
@@ -164,7 +166,22 @@ impl Macroblocks {
                 let mut case = self.request(&scene, [true, true]);
                 case.references[0] = other;
                 self.absent(&mut case, [false, true]);
-                self.compare_for(17, &mut scene, &case)?;
+                self.compare_for(15, &mut scene, &case)?;
+            }
+
+            // One of two references: the same as by its direction alone.
+            for absent in [[true, false], [false, true]] {
+                let mut case = self.request(&scene, [true, true]);
+                self.absent(&mut case, absent);
+                self.compare_for(ACCEPTED, &mut scene, &case)?;
+                let of_both = self.out.bytes().to_vec();
+                for (moved, absent) in case.motion.iter_mut().zip(absent) {
+                    moved.present = u32::from(!absent);
+                }
+                self.compare_for(ACCEPTED, &mut scene, &case)?;
+                if self.out.bytes() != of_both {
+                    return Err("one of two references gives other samples than alone".to_owned());
+                }
             }
 
             // No motion in either direction, with and without the backward reference, and without

@@ -63,8 +63,9 @@ const FIELDS: &str = "\
 Flags are 0 or 1. What is absent is a 0 with zeros behind it; PRESENT is 1 where it is there.
 CHROMA is 0 Yuv420, 1 Yuv422, 2 Yuv444; FIELD is the field that a vector reads, 0 Top, 1 Bottom: as
 the original's enums count them. ANSWER is 0 or the refusal's number. The output holds LENGTH bytes,
-at most 1024, before the call: FILL, FILL + 1 and so on, modulo 256. AFTER is the output after it:
-Y, then Cb, then Cr; or - where it is what it was before.
+at most 1024, before the call: FILL, FILL + 1 and so on, modulo 256. USED tells what an accepted
+macroblock was predicted from: 1 the forward reference, 2 the backward one, 3 both; 0 where it is
+refused. AFTER is the output after it: Y, then Cb, then Cr; or - where it is what it was before.
 1 REFERENCE Y_WIDTH Y_HEIGHT Y_LENGTH CB_WIDTH CB_HEIGHT CB_LENGTH CR_WIDTH CR_HEIGHT CR_LENGTH SEED
   Sets the planes that the cases after it pass for a reference, 0 the forward one, 1 the backward
   one, also where they say that it is absent. A LENGTH need not be width * height; the three are at
@@ -72,12 +73,12 @@ Y, then Cb, then Cr; or - where it is what it was before.
   SEED on, s becomes (s * 1103515245 + 12345) mod 2^31, and the sample is s / 2^16 mod 256. The line
   makes no call, and counts as a case that agrees.
 2 WIDTH HEIGHT CHROMA PRESENT WIDTH HEIGHT CHROMA PRESENT WIDTH HEIGHT CHROMA MB_COL MB_ROW
-  PRESENT HORIZONTAL VERTICAL PRESENT HORIZONTAL VERTICAL FILL LENGTH ANSWER AFTER
+  PRESENT HORIZONTAL VERTICAL PRESENT HORIZONTAL VERTICAL FILL LENGTH ANSWER USED AFTER
   predict_frame_macroblock_planes: what the destination, the forward and the backward reference
   declare, the macroblock's place, the forward and the backward vector.
 3 WIDTH HEIGHT CHROMA PRESENT WIDTH HEIGHT CHROMA PRESENT WIDTH HEIGHT CHROMA MB_COL MB_ROW
   PRESENT HORIZONTAL VERTICAL FIELD HORIZONTAL VERTICAL FIELD
-  PRESENT HORIZONTAL VERTICAL FIELD HORIZONTAL VERTICAL FIELD FILL LENGTH ANSWER AFTER
+  PRESENT HORIZONTAL VERTICAL FIELD HORIZONTAL VERTICAL FIELD FILL LENGTH ANSWER USED AFTER
   predict_field_based_macroblock_planes: the same with the vectors of the top and of the bottom
   field, forward and backward.";
 
@@ -94,6 +95,9 @@ the number 14 for a plane of a used reference with a side over 16384, or of anot
 its width times its height, which the original cannot have; the order 13, 18, 16, 17, 15, 14; and
 that a refusal changes nothing. Whether 15, 16 or 17 is due is always asked of the original, with an
 empty plane in place of one of the wrong length: these refusals do not depend on planes.
+The scope's alone is also that of two directions with motion the one whose reference is there is
+used where the other's is absent, where the original refuses with 16 or 17: it is asked there with
+the motion of that one alone. USED is told by what it refuses without each reference.
 The last group is wrong on purpose."
     );
     let mut maker = Maker {
@@ -134,6 +138,7 @@ The last group is wrong on purpose."
     refused_planes(&mut maker);
     orders(&mut maker);
     orders_of_two(&mut maker);
+    one_of_two(&mut maker);
     if edition.is_kept() {
         wrong_on_purpose(&mut maker);
     }
@@ -338,7 +343,7 @@ fn scope_cases(maker: &mut Maker) {
 
     maker
         .list
-        .group("b. the scope's own: forward present with wrong geometry, backward absent: 17");
+        .group("b. the scope's own: forward present with wrong geometry, backward absent: 15");
     for (call, format) in calls_and_formats() {
         maker.picture(16, 16, format);
         for other in other_geometries(maker.dest) {
@@ -348,7 +353,7 @@ fn scope_cases(maker: &mut Maker) {
                 backward: None,
                 ..maker.request(motion, (0, 0))
             };
-            maker.ask_for(17, request);
+            maker.ask_for(15, request);
         }
     }
 
@@ -392,7 +397,7 @@ so is a row",
 fn directions(maker: &mut Maker) {
     maker.list.group(
         "e. each direction with and without motion, each reference there and absent, each call and format:
-16, 17 or the macroblock; 16 before 17",
+16, 17 or the macroblock; of both directions and one reference the macroblock from that one",
     );
     for (call, format) in calls_and_formats() {
         maker.picture(32, 32, format);
@@ -940,8 +945,9 @@ fn orders(maker: &mut Maker) {
 
     maker.list.group(
         "u. every set of causes of refusal at once, by the call and the directions: the first in the order
-13, 18, 16, 17, 15, 14 of those that a used direction has. Without 13, 18 and 14 it is the
-Rust's",
+13, 18, 16, 17, 15, 14 of those that a used direction has; of two directions whose references
+are not both absent only those that are there are used. Without 13, 18 and 14 it is the Rust's,
+but for this",
     );
     let mut formats = FORMATS.into_iter().cycle();
     for unfit in FLAGS {
@@ -991,12 +997,21 @@ fn cause(maker: &mut Maker, call: Call, directions: Directions, holds: impl Fn(u
     if holds(17) {
         request.backward = None;
     }
-    let forward = directions.forward || !directions.backward;
+    // Of two directions the one whose reference is there is left.
+    let alone = directions.forward && directions.backward && holds(16) != holds(17);
+    let (forward, backward) = if alone {
+        (!holds(16), !holds(17))
+    } else {
+        (
+            directions.forward || !directions.backward,
+            directions.backward,
+        )
+    };
     let due = [
         (13, true),
         (18, true),
         (16, forward),
-        (17, directions.backward),
+        (17, backward),
         (15, true),
         (14, true),
     ];
@@ -1035,12 +1050,73 @@ width, height or format, beside a plane of it or of the other that does not fit:
     }
 }
 
+/// Both directions have motion, and one reference is there.
+fn one_of_two(maker: &mut Maker) {
+    maker.list.group(
+        "w. the scope's and not the Rust's: both directions, and one reference alone: the macroblock that
+this one gives by its own vectors, whatever planes are set for the absent one; 15 where it declares
+another width, height or format; 14 where a plane of it does not fit; 15 where both hold",
+    );
+    const OVER: usize = LARGEST_SIDE + 1;
+    for (call, format) in calls_and_formats() {
+        for there in REFERENCES {
+            let absent = REFERENCES[1 - there as usize];
+            let fitting = picture_planes(32, 32, format);
+            let alone = |request: Request| match there {
+                Direction::Forward => Request {
+                    backward: None,
+                    ..request
+                },
+                Direction::Backward => Request {
+                    forward: None,
+                    ..request
+                },
+            };
+            let declares = |request: Request, other| match there {
+                Direction::Forward => Request {
+                    forward: other,
+                    ..request
+                },
+                Direction::Backward => Request {
+                    backward: other,
+                    ..request
+                },
+            };
+            maker.picture(32, 32, format);
+            let unread = [sides(OVER, 1), sides(3, 5), sides(0, 0)];
+            maker.set(absent, unread);
+            for cell in [(0, 0), (1, 1), (LAST_CELL, 2)] {
+                let motion = maker.draw_motion(call, BOTH, 40);
+                let request = alone(maker.request(motion, cell));
+                maker.ask_for(ACCEPTED, request);
+            }
+            for place in [0, 5, 8] {
+                let motion = maker.draw_motion(call, BOTH, 9);
+                let request = alone(maker.request(motion, (0, 0)));
+                let other = Some(other_geometries(request.dest)[place]);
+                maker.ask_for(15, declares(request, other));
+            }
+            for place in 0..3 {
+                let mut planes = fitting;
+                planes[place].length -= 1;
+                maker.set(there, planes);
+                let motion = maker.draw_motion(call, BOTH, 9);
+                let request = alone(maker.request(motion, (0, 0)));
+                maker.ask_for(14, request);
+                let other = Some(other_geometries(request.dest)[place]);
+                maker.ask_for(15, declares(request, other));
+            }
+        }
+    }
+}
+
 fn wrong_on_purpose(maker: &mut Maker) {
     maker.list.group(
-        "w. wrong on purpose, so that the expected output shows that the comparison can fail; only the
+        "x. wrong on purpose, so that the expected output shows that the comparison can fail; only the
 lines that set planes are right: the last byte of a macroblock off by one, of each call; a refusal
 for an answer; 17 where 16 is right; an answer for a refusal; a byte of a refused macroblock's
-output off by one; a macroblock from the other field",
+output off by one; a macroblock from the other field; of two references one the other one, and
+both; from one of two references, the macroblock of both",
     );
     maker.picture(16, 16, ChromaFormat::Yuv420);
     for call in CALLS {
@@ -1087,4 +1163,17 @@ output off by one; a macroblock from the other field",
     let mut other = ask(top);
     other.after = ask(bottom).after;
     maker.list.case(other);
+
+    let alone = Request {
+        backward: None,
+        ..accepted
+    };
+    for used in [2, 3] {
+        let mut told = ask(alone);
+        told.used = used;
+        maker.list.case(told);
+    }
+    let mut joined = ask(alone);
+    joined.after = ask(accepted).after;
+    maker.list.case(joined);
 }

@@ -100,6 +100,14 @@ pub struct Read {
     pub motion: Motion,
 }
 
+impl Read {
+    /// What the references leave of the motion.
+    pub fn remaining(&self) -> Motion {
+        self.motion
+            .remaining(self.references.map(|reference| reference.is_some()))
+    }
+}
+
 impl Case {
     /// Whether each of the call's arguments has a meaning: the scope's refusal 38, which comes
     /// before all else and which the original does not have. What stands beside a presence of 0 is

@@ -60,7 +60,13 @@ impl Macroblocks {
             let argument = self.run.rng.pick(&[0, 1, 3, 5, 6]);
             case.make_meaningless(&mut self.run, argument);
         }
-        let [forward, backward] = directions;
+        // Of two directions the one whose reference is there is left.
+        let alone = directions == [true, true] && holds(16) != holds(17);
+        let [forward, backward] = if alone {
+            [!holds(16), !holds(17)]
+        } else {
+            directions
+        };
         let due = CAUSES.into_iter().find(|cause| {
             let used = match cause {
                 16 => forward || !backward,

@@ -116,7 +116,14 @@ impl Coverage {
                     "frame-based: accepted, by the directions",
                     "field-based: accepted, by the directions",
                 ),
-                &["no motion", "forward", "backward", "both"],
+                &[
+                    "no motion",
+                    "forward",
+                    "backward",
+                    "both",
+                    "both, one reference: forward",
+                    "both, one reference: backward",
+                ],
                 &FORMATS,
                 &[],
             ),
@@ -244,7 +251,7 @@ impl Coverage {
             }
             18 => self.count_length(case.length, macroblock_length(read.dest.format)),
             15 => self.count_geometry(read),
-            14 => self.count_unfit(read.motion, scene),
+            14 => self.count_unfit(read.remaining(), scene),
             _ => {}
         }
     }
@@ -266,7 +273,7 @@ impl Coverage {
             height,
             format,
         } = read.dest;
-        let used = used(read.motion);
+        let used = used(read.remaining());
         for (column, reference) in read.references.into_iter().enumerate() {
             let Some(declared) = reference.filter(|_| used[column]) else {
                 continue;
@@ -300,14 +307,18 @@ impl Coverage {
 
     fn count_accepted(&mut self, case: &Case, read: &Read, scene: &Scene) {
         let [forward, backward] = case.motion.map(|moved| moved.present == 1);
-        let directions = usize::from(forward) + 2 * usize::from(backward);
+        let directions = match (forward && backward, read.references) {
+            (true, [Some(_), None]) => 4,
+            (true, [None, Some(_)]) => 5,
+            _ => usize::from(forward) + 2 * usize::from(backward),
+        };
         self.directions.count(directions, read.dest.format as usize);
         self.count_situations(case, read, scene);
-        for (reference, used) in used(read.motion).into_iter().enumerate() {
+        for (reference, used) in used(read.remaining()).into_iter().enumerate() {
             if !used {
                 continue;
             }
-            let vectors = vectors(read.motion, reference);
+            let vectors = vectors(read.remaining(), reference);
             if let Some(parities) = &mut self.parities {
                 let column = if case.motion[reference].present == 1 {
                     reference
@@ -381,7 +392,7 @@ impl Coverage {
     }
 
     fn count_situations(&mut self, case: &Case, read: &Read, scene: &Scene) {
-        let used = used(read.motion);
+        let used = used(read.remaining());
         let unused = |met: &dyn Fn(usize) -> bool| (0..2).any(|place| !used[place] && met(place));
         let any = |met: &dyn Fn(usize) -> bool| (0..2).any(|place| used[place] && met(place));
         let unfit = |place: usize| !scene.sides(place).into_iter().all(Sides::in_domain);
@@ -447,7 +458,7 @@ fn used(motion: Motion) -> [bool; 2] {
 
 /// All causes of refusal that hold: the scope's table, one row after the other.
 fn causes(case: &Case, read: &Read, scene: &Scene) -> Vec<u8> {
-    let used = used(read.motion);
+    let used = used(read.remaining());
     let [forward, backward] = read.references;
     let other = |place: usize| {
         used[place] && read.references[place].is_some_and(|declared| declared != read.dest)
@@ -459,7 +470,7 @@ fn causes(case: &Case, read: &Read, scene: &Scene) -> Vec<u8> {
         (17, used[1] && backward.is_none()),
         (15, other(0)),
         (15, other(1)),
-        (14, !scene.in_domain(read.motion)),
+        (14, !scene.in_domain(read.remaining())),
     ];
     let causes = holds.into_iter().filter(|(_, holds)| *holds);
     causes.map(|(number, _)| number).collect()

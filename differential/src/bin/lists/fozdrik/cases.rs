@@ -473,7 +473,10 @@ impl PredictionCall {
         let [forward, backward] = meaning.references;
         let forward = forward.map(|declared| planes[0].frame(declared));
         let backward = backward.map(|declared| planes[1].frame(declared));
-        let used = |planes: &&Planes| meaning.motion.uses(planes.reference);
+        let motion = meaning
+            .motion
+            .remaining([forward.is_some(), backward.is_some()]);
+        let used = |planes: &&Planes| motion.uses(planes.reference);
         let question = Question {
             dest: meaning.dest,
             references: ReferenceFrames {
@@ -482,7 +485,7 @@ impl PredictionCall {
             },
             column: self.column,
             row: self.row,
-            motion: meaning.motion,
+            motion,
             length: self.length,
             in_domain: planes.iter().filter(used).all(Planes::in_domain),
         };

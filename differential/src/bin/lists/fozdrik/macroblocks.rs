@@ -212,8 +212,8 @@ macroblock",
                     declared.present = present;
                 }
                 let number = match (motion, there) {
-                    (NEITHER | FORWARD | BOTH, NEITHER | BACKWARD) => NO_FORWARD,
-                    (BACKWARD, NEITHER | FORWARD) | (BOTH, FORWARD) => NO_BACKWARD,
+                    (NEITHER | FORWARD, NEITHER | BACKWARD) | (BOTH, NEITHER) => NO_FORWARD,
+                    (BACKWARD, NEITHER | FORWARD) => NO_BACKWARD,
                     _ => ACCEPTED,
                 };
                 maker.predict_for(number, &request);
@@ -444,8 +444,8 @@ motion, each of any number",
                 }
                 request.motion[absent].present = 1;
                 if call == Call::Frame {
-                    // the motion is read now, and the reference's numbers are not
-                    maker.predict_for([NO_FORWARD, NO_BACKWARD][absent], &request);
+                    // the motion is read now, but the reference's numbers are not, and the other one is used alone
+                    maker.predict_for(ACCEPTED, &request);
                 } else {
                     maker.predict_for(NO_MEANING, &request);
                 }
@@ -494,7 +494,7 @@ fn orders(maker: &mut Maker) {
 
     maker.list.group(
         "macroblocks, n. both directions and two causes of refusal at once: the first in the order 13, 18,
-16, 17, 15, 14",
+16, 17, 15, 14; but where one reference is absent, what the other refuses",
     );
     for (call, format) in CALLS.into_iter().zip([1, 2]) {
         for unfit in [false, true] {
@@ -502,7 +502,9 @@ fn orders(maker: &mut Maker) {
             if unfit {
                 let mut planes = picture_planes(32, 32, format);
                 planes[2].length += 1;
-                maker.set(1, planes);
+                for reference in 0..2 {
+                    maker.set(reference, planes);
+                }
             }
             for (place, first) in CAUSES.into_iter().enumerate() {
                 for second in CAUSES.into_iter().skip(place + 1) {
@@ -522,7 +524,8 @@ fn orders(maker: &mut Maker) {
                             _ => {}
                         }
                     }
-                    maker.predict_for(first, &request);
+                    let alone = matches!(first, 16 | 17) && second != 17;
+                    maker.predict_for(if alone { second } else { first }, &request);
                 }
             }
         }

@@ -77,6 +77,8 @@ pub struct Prediction {
     request: Request,
     fill: u8,
     pub answer: u8,
+    /// Of an accepted answer: 1 for the forward reference, 2 for the backward one, both added.
+    pub used: u8,
     pub after: Vec<u8>,
 }
 
@@ -93,6 +95,7 @@ impl Prediction {
         let [forward, backward] = planes;
         let forward = request.forward.map(|declared| forward.frame(declared));
         let backward = request.backward.map(|declared| backward.frame(declared));
+        let motion = motion.remaining([forward.is_some(), backward.is_some()]);
         let in_domain = planes
             .iter()
             .all(|planes| planes.in_domain() || !motion.uses(planes.reference));
@@ -114,10 +117,12 @@ impl Prediction {
         let answer = question.refused_before().and(original);
         let answer = answer.and_then(|formed| question.refused_after().map(|()| formed));
         let number = answer.as_ref().err().copied().unwrap_or(ACCEPTED);
+        let used = answer.as_ref().map_or(0, |_| question.used());
         Self {
             request,
             fill,
             answer: number,
+            used,
             after: answer.unwrap_or_else(|_| ramp(fill, length)),
         }
     }
@@ -147,10 +152,11 @@ impl Display for Prediction {
         let after = if unchanged { &[][..] } else { &self.after };
         write!(
             f,
-            "{} {dest} {forward} {backward} {column} {row} {motion} {} {length} {} {}",
+            "{} {dest} {forward} {backward} {column} {row} {motion} {} {length} {} {} {}",
             kind(motion),
             self.fill,
             self.answer,
+            self.used,
             Hex(after),
         )
     }
