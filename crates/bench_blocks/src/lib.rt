@@ -1,6 +1,7 @@
 //! The block predictors behind one C entry point, for the benchmark alone: no part of the card's interface. It answers 0 or the number
 //! of a refusal.
 #![tactic(auto)]
+
 ghost use Rattle.std.specs.Prelude.{◌≡◌, length};
 ghost use Rattle.combine_predictions.specs.Refusals.{unlessRefused};
 ghost use Rattle.forming_predictions.specs.Lines.{sampleAt};

@@ -1,5 +1,6 @@
 //! The drift figure: how far rounding may take the samples of a picture from those of the same steps with every mean exact.
 #![tactic(auto)]
+
 ghost use Rattle.std.specs.Prelude.{◌≡◌, ◌*◌};
 ghost use Rattle.drift.specs.Drift.{DriftWithin, DriftFigure};
 

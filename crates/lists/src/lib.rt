@@ -2,6 +2,7 @@
 //! that begin with a number sign. A reader takes the text and a place in it and answers with the place after what it read. It takes
 //! every place; where the word there is not what was asked for, `good` is false.
 #![tactic(auto)]
+
 ghost use Rattle.std.specs.Prelude.{◌≡◌, ◌+◌, ◌*◌, ◌^◌, ◌/◌, ◌≤◌, ◌<◌, min, pos, neg_ℤ, length, take, drop};
 ghost use Rattle.laws.specs.Tabulate.{tabulate};
 ghost use Rattle.lists.specs.Text.{inClass, runEnd, place, wordStart, wordEnd, word_at, lineEnds, next_at};

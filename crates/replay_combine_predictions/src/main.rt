@@ -1,8 +1,10 @@
 //! Replays the averaging list, which has the Rust's answers, on `combine_predictions`. The list's head says what its fields mean.
 #![tactic(auto)]
+
 use combine_predictions::{Averaged, PredictionDirection};
-use libc::{STDIN_FILENO, STDOUT_FILENO};
 use lists::Next;
+use std::io;
+use std::io::Read;
 use tally::Tally;
 
 /// A case that was read: whether the port agrees with the list, the place after the case, and whether the line was well formed.
@@ -143,51 +145,42 @@ fn case(s: &[u8], at: usize) -> Judged {
 }
 
 /// Goes one line further. A case has to end its line.
-fn step(s: &[u8], t: Tally) -> Tally {
+fn step(rt: &impl Print, s: &[u8], t: Tally) -> io::Result<Tally> {
     match lists::find_next(s, t.at) {
-        Next::End => tally::stopped(t, true),
-        Next::Comment(next) => tally::passed(t, next),
+        Next::End => Ok(tally::stopped(t, true)),
+        Next::Comment(next) => Ok(tally::passed(t, next)),
         Next::Case(at) => {
             let j = case(s, at);
             if j.good & lists::line_ends(s, j.next) {
-                tally::judged(t, j.agrees, j.next)
+                tally::judge(rt, t, j.agrees, j.next)
             } else {
-                tally::stopped(t, false)
+                Ok(tally::stopped(t, false))
             }
         }
     }
 }
 
 /// Goes through the list. A line takes two bytes or more, its line feed included, so that there are turns enough.
-fn walk(s: &[u8]) -> Tally {
+fn walk(rt: &impl Print, s: &[u8]) -> io::Result<Tally> {
     let mut t = tally::start();
-    let mut turns = s.len();
-    while turns > 0 {
+    for _ in 0..s.len() {
         if !t.on {
-            return t;
+            break;
         }
-        t = step(s, t);
-        turns -= 1;
+        t = step(rt, s, t)?;
     }
-    t
+    Ok(t)
 }
 
-/// Reads the list and goes through it. A list that fills the buffer may go on behind it.
-fn replay(buffer: &mut [u8]) {
-    let n = io::read_full(STDIN_FILENO, buffer);
-    if n == buffer.len() {
-        io::write_all(STDOUT_FILENO, b"the list is too long\n");
-        return;
-    }
-    tally::report(walk(&buffer[..n]));
+/// Reads the list and goes through it.
+fn replay(rt: &(impl Alloc + Input + Print)) -> io::Result<()> {
+    let mut list = Vec::new(rt.alloc());
+    rt.reader().read_to_end(&mut list)?;
+    let t = walk(rt, list.as_slice())?;
+    tally::report(rt, t)?;
+    Ok(())
 }
 
-/// Lends the array as a slice: the prover takes the array's length from its type here, and in `main` would have to count it.
-fn lend(buffer: &mut [u8; 1048576]) {
-    replay(buffer);
-}
-
-fn main() {
-    let mut buffer = [0u8; 1048576];
-    lend(&mut buffer);
+fn main(rt: HostRuntime) -> io::Result<()> {
+    replay(&rt)
 }

@@ -1,9 +1,10 @@
 //! The count that every replay keeps, and its report.
 #![tactic(auto)]
-ghost use Rattle.std.specs.Prelude.{◌≡◌};
+
+ghost use Rattle.std.specs.Prelude.{◌≡◌, IfOk};
 ghost use Rattle.tally.specs.Counts.{none, afterComment, afterCase, atEnd};
 
-use libc::STDOUT_FILENO;
+use std::io;
 
 /// The place in the list, the lines so far (comments and cases: a list has no empty line), the cases, those that agree, whether to go
 /// on, and whether the list is well formed so far.
@@ -36,7 +37,7 @@ pub fn passed(t: Tally, next: usize) -> Tally
 {
     Tally {
         at: next,
-        lines: std::num::wrapping_add_u64(t.lines, 1),
+        lines: t.lines.wrapping_add(1),
         cases: t.cases,
         agree: t.agree,
         on: true,
@@ -44,32 +45,21 @@ pub fn passed(t: Tally, next: usize) -> Tally
     }
 }
 
-fn name(case: u64, line: u64) {
-    io::write_all(STDOUT_FILENO, b"case ");
-    io::print_decimal(STDOUT_FILENO, case);
-    io::write_all(STDOUT_FILENO, b", line ");
-    io::print_decimal(STDOUT_FILENO, line);
-    io::write_all(STDOUT_FILENO, b", disagrees\n");
-}
-
-/// After a case; `next` is the place behind it. A case that does not agree is named, with its line, if it is among the first eight.
+/// After a case; `next` is the place behind it.
 pub fn judged(t: Tally, agrees: bool, next: usize) -> Tally
     ensures { result ≡ afterCase t agrees next }
 {
-    let lines = std::num::wrapping_add_u64(t.lines, 1);
-    let cases = std::num::wrapping_add_u64(t.cases, 1);
+    let lines = t.lines.wrapping_add(1);
+    let cases = t.cases.wrapping_add(1);
     if agrees {
         return Tally {
             at: next,
             lines: lines,
             cases: cases,
-            agree: std::num::wrapping_add_u64(t.agree, 1),
+            agree: t.agree.wrapping_add(1),
             on: true,
             good: t.good,
         };
-    }
-    if std::num::wrapping_sub_u64(t.cases, t.agree) < 8 {
-        name(cases, lines);
     }
     Tally {
         at: next,
@@ -79,6 +69,21 @@ pub fn judged(t: Tally, agrees: bool, next: usize) -> Tally
         on: true,
         good: t.good,
     }
+}
+
+fn name(rt: &impl Print, case: u64, line: u64) -> io::Result<()> {
+    println!(rt; "case {case}, line {line}, disagrees")
+}
+
+/// The same as `judged`. A case that does not agree is named, with its line, if it is among the first eight.
+pub fn judge(rt: &impl Print, t: Tally, agrees: bool, next: usize) -> io::Result<Tally>
+    ensures { IfOk result (λ r. r ≡ afterCase t agrees next) }
+{
+    let r = judged(t, agrees, next);
+    if !agrees & (t.cases.wrapping_sub(t.agree) < 8) {
+        name(rt, r.cases, r.lines)?;
+    }
+    Ok(r)
 }
 
 /// At the end of the list, or, where `good` is false, at a line that is not well formed.
@@ -96,18 +101,16 @@ pub fn stopped(t: Tally, good: bool) -> Tally
 }
 
 /// Writes the counts, and the first line that is not well formed, where there is one. Answers whether there was none.
-pub fn report(t: Tally) -> bool
-    ensures { result ≡ t.good }
+pub fn report(rt: &impl Print, t: Tally) -> io::Result<bool>
+    ensures { IfOk result (λ good. good ≡ t.good) }
 {
-    io::print_decimal(STDOUT_FILENO, t.cases);
-    io::write_all(STDOUT_FILENO, b" cases, ");
-    io::print_decimal(STDOUT_FILENO, t.agree);
-    io::write_all(STDOUT_FILENO, b" agree\n");
+    let cases = t.cases;
+    let agree = t.agree;
+    println!(rt; "{cases} cases, {agree} agree")?;
     if t.good {
-        return true;
+        return Ok(true);
     }
-    io::write_all(STDOUT_FILENO, b"not well formed: line ");
-    io::print_decimal(STDOUT_FILENO, std::num::wrapping_add_u64(t.lines, 1));
-    io::write_all(STDOUT_FILENO, b"\n");
-    false
+    let line = t.lines.wrapping_add(1);
+    println!(rt; "not well formed: line {line}")?;
+    Ok(false)
 }

@@ -21,8 +21,8 @@ use Rattle.pmv.specs.declared.kinds.PictureStructure.TheVariants as PictureStruc
 
 infix 90 −◌
 infix 80 vertical-field-vector-in-frame-picture◌
-infix 75 f-code◌code◌residual◌prior◌ f-code◌code◌prior◌ f-code_code_any-prior
-infix 70 average-of◌and◌is◌ vector_splits-to-whole_with-a-half vector_splits-to-whole_without-a-half mean-of◌and◌and◌and◌is◌
+infix 75 f-code◌code◌residual◌prior◌ f-code◌code◌prior◌ f-code◌code◌any-prior
+infix 70 average-of◌and◌is◌ vector◌splits-to-whole◌with-a-half vector◌splits-to-whole◌without-a-half mean-of◌and◌and◌and◌is◌
 infix 70 ◌both-halves-at◌give◌ ◌bottom-field-is-empty-and-samples◌
 infix 70 ◌is-always-refusal◌ ◌is-refusal◌ ◌gives-vector◌ ◌gives-delta◌and-vector◌ ◌gives-vector◌and-new-predictor◌
 infix 70 chroma-of◌by◌is◌
@@ -54,14 +54,14 @@ pub record Input : Type 0 where
 
 -- of vectors that are not halved, whatever their kind
 abbrev pub f-code◌code◌residual◌prior◌ : ℕ → ℤ → ℕ → ℤ → Input
-f_code n code c residual r prior p =
+f-code n code c residual r prior p =
     record { fCode = n; motion-code = c; motion-residual = Present r; predictor = p; halved = false }
 
 abbrev pub f-code◌code◌prior◌ : ℕ → ℤ → ℤ → Input
-f_code n code c prior p = record { fCode = n; motion-code = c; motion-residual = Absent; predictor = p; halved = false }
+f-code n code c prior p = record { fCode = n; motion-code = c; motion-residual = Absent; predictor = p; halved = false }
 
-abbrev pub f-code_code_any-prior : ℕ → ℤ → ℤ → Input
-f_code n code c any-prior = λ (p : ℤ). f_code n code c prior p
+abbrev pub f-code◌code◌any-prior : ℕ → ℤ → ℤ → Input
+f-code n code c any-prior = λ (p : ℤ). f-code n code c prior p
 
 abbrev pub vertical-field-vector-in-frame-picture◌ : Input → Input
 vertical-field-vector-in-frame-picture i =
@@ -84,8 +84,8 @@ answer_of i = componentOf i.fCode i.motion-code i.motion-residual i.predictor i.
 
 pub data Case : Type 0 where
   average-of◌and◌is◌ : (a b mean : ℕ) → Case
-  vector_splits-to-whole_with-a-half : (v whole : ℤ) → Case
-  vector_splits-to-whole_without-a-half : (v whole : ℤ) → Case
+  vector◌splits-to-whole◌with-a-half : (v whole : ℤ) → Case
+  vector◌splits-to-whole◌without-a-half : (v whole : ℤ) → Case
   mean-of◌and◌and◌and◌is◌ : (a b c d mean : ℕ) → Case
   ◌both-halves-at◌give◌ : (p : Plane) (at : ℤ × ℤ) (sample : ℕ) → Case
   ◌bottom-field-is-empty-and-samples◌ : (p : Plane) (sample : ℕ) → Case
@@ -129,14 +129,14 @@ cases =
     ∷ plane-with-rows (10 ∷ 20 ∷ []) (30 ∷ 41 ∷ []) both-halves-at (pos 1, pos 1) give 41
     ∷ plane-of-one-sample 7 bottom-field-is-empty-and-samples 7
     -- src/pmv.rs
-    ∷ f_code 1 code pos 16 any-prior is-always-refusal 5
-    ∷ f_code 1 code − 16 prior pos 0 gives-vector − 16
-    ∷ f_code 1 code − 16 prior − 16 gives-vector pos 0
-    ∷ f_code 2 code pos 3 residual 1 prior pos 30 gives-delta pos 6 and-vector − 28
-    ∷ f_code 9 code − 16 residual 255 prior pos 0 gives-vector − 4096
-    ∷ f_code 1 code pos 0 prior pos 47 gives-vector pos 15
-    ∷ f_code 1 code pos 0 prior pos 48 is-refusal 6
-    ∷ vertical-field-vector-in-frame-picture (f_code 1 code pos 0 prior − 3) gives-vector − 2 and-new-predictor − 4
+    ∷ f-code 1 code pos 16 any-prior is-always-refusal 5
+    ∷ f-code 1 code − 16 prior pos 0 gives-vector − 16
+    ∷ f-code 1 code − 16 prior − 16 gives-vector pos 0
+    ∷ f-code 2 code pos 3 residual 1 prior pos 30 gives-delta pos 6 and-vector − 28
+    ∷ f-code 9 code − 16 residual 255 prior pos 0 gives-vector − 4096
+    ∷ f-code 1 code pos 0 prior pos 47 gives-vector pos 15
+    ∷ f-code 1 code pos 0 prior pos 48 is-refusal 6
+    ∷ vertical-field-vector-in-frame-picture (f-code 1 code pos 0 prior − 3) gives-vector − 2 and-new-predictor − 4
     ∷ chroma-of (− 3, − 3) by Yuv420 is (− 1, − 1)
     ∷ chroma-of (− 3, − 3) by Yuv422 is (− 1, − 3)
     ∷ chroma-of (− 3, − 3) by Yuv444 is (− 3, − 3)

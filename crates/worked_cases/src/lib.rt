@@ -1,6 +1,7 @@
 //! The worked cases of docs/SCOPE.md, of all layers, as one table: specs/ has it, and the single claim that every row holds, which is a
 //! promise of the one function here.
 #![tactic(auto)]
+
 ghost use Rattle.std.specs.Prelude.{◌≡◌, length};
 ghost use Rattle.worked_cases.specs.Cases.{cases, CasesHold};
 

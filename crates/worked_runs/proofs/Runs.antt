@@ -1,6 +1,6 @@
 -- The runs of specs/Runs.antt are computed. The claim's hypotheses hold of the third list, and it is put to use there.
 -- Assumes nothing.
-use mathlib.Core.Path.{◌≡◌, refl}
+use mathlib.Core.Path.{refl}
 use mathlib.Core.List.{[], ◌∷◌}
 use Prim.Native.Nat.{ℕ, ◌/◌, ◌%◌}
 use native.Mathlib.Omega.{arith}

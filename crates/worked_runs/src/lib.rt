@@ -1,5 +1,6 @@
 //! Runs of the drift figure and single steps, computed on both sides by the definitions: specs/ has them, and one function promises what they show.
 #![tactic(auto)]
+
 ghost use Rattle.std.specs.Prelude.{◌≡◌};
 ghost use Rattle.worked_runs.specs.Runs.{TightUpTo, FigureMet, ListHolds};
 ghost use Rattle.worked_runs.specs.Steps.{StepsHold};

@@ -1,3 +1,0 @@
--- Laws for the proof of the entry point.
-pub mod Sources
-pub mod Answers
