@@ -52,7 +52,7 @@ fits f k n cr h = refl
 
 pub in-range : All (InRange 2) steps
 in-range = (
-  record { first = omega arith; last = omega arith; forward = tt; backward = omega arith },
+  record { first = omega arith; last = omega arith; forward = tt; backward = tt },
   (
     record { first = omega arith; last = omega arith; forward = omega arith; backward = omega arith },
     (
@@ -61,7 +61,7 @@ in-range = (
         record { first = omega arith; last = omega arith; forward = omega arith; backward = omega arith },
         (
           record { first = omega arith; last = omega arith; forward = omega arith; backward = tt },
-          (record { first = omega arith; last = omega arith; forward = tt; backward = omega arith }, tt),
+          (record { first = omega arith; last = omega arith; forward = tt; backward = tt }, tt),
         ),
       ),
     ),

@@ -25,16 +25,19 @@ lengths = (refl, refl, refl, refl)
 
 pub copied : All Leaves copies
 unfolding tabulate floorHalf halfFlag fieldLines clampTo row_of sampleAt combined formed planeFits truncHalf fieldSample directionSample usedSample rectangle macroblock sameGeometry planesFit stored pictureFits wellFormed stepPredictionRefusal prediction stepPlacingRefusal placement tableRefusal unroundedPrediction unroundedPlacement
-copied = (refl, refl) ◂ (refl, refl) ◂ (refl, refl) ◂ (refl, refl) ◂ (refl, refl) ◂ (refl, refl) ◂ tt
+copied = (refl, refl) ◂ (refl, refl) ◂ (refl, refl) ◂ (refl, refl) ◂ (refl, refl) ◂ (refl, refl) ◂ (refl, refl) ◂ (refl, refl) ◂ tt
 
 pub by-fields : All Leaves byFields
 unfolding tabulate floorHalf halfFlag fieldLines clampTo row_of sampleAt combined formed planeFits truncHalf fieldSample directionSample usedSample rectangle macroblock sameGeometry planesFit stored pictureFits wellFormed stepPredictionRefusal prediction stepPlacingRefusal placement tableRefusal unroundedPrediction unroundedPlacement
-by-fields = (refl, refl) ◂ (refl, refl) ◂ (refl, refl) ◂ (refl, refl) ◂ tt
+by-fields = (refl, refl) ◂ (refl, refl) ◂ (refl, refl) ◂ (refl, refl) ◂ (refl, refl) ◂ (refl, refl) ◂ tt
 
 pub refuse : All Refuses refusals
 unfolding tabulate floorHalf halfFlag fieldLines clampTo row_of sampleAt combined formed planeFits truncHalf fieldSample directionSample usedSample rectangle macroblock sameGeometry planesFit stored pictureFits wellFormed stepPredictionRefusal prediction stepPlacingRefusal placement tableRefusal unroundedPrediction unroundedPlacement
 refuse =
     (refl, refl, refl)
+    ◂ (refl, refl, refl)
+    ◂ (refl, refl, refl)
+    ◂ (refl, refl, refl)
     ◂ (refl, refl, refl)
     ◂ (refl, refl, refl)
     ◂ (refl, refl, refl)

@@ -130,9 +130,9 @@ mixed =
       motion = fieldBased (record { forward = Field.Present there; backward = Field.Present back });
     }
 
--- no reference for the motion; a cell outside the picture
+-- motion in both directions and neither reference; a cell outside the picture
 abbrev pub missing : Step
-missing = record { target = 2; forward = none; backward = some 1; column = 0; row = 0; motion = mixed.motion }
+missing = record { target = 2; forward = none; backward = none; column = 0; row = 0; motion = mixed.motion }
 
 abbrev pub outside : Step
 outside = record { target = 2; forward = some 0; backward = some 1; column = 1; row = 0; motion = mixed.motion }

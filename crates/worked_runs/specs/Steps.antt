@@ -81,13 +81,16 @@ abbrev pub left : FrameGeometry → List Step → ℕ → ColourComponent → �
 left g steps n c i sample unrounded = record { g = g; steps = steps; n = n; c = c; i = i; sample = sample; unrounded = unrounded }
 
 -- vectors of 0, so that each sample can be told without computing a prediction: a copy of the forward reference, which is what no motion means;
--- of the backward one; a copy of a copy; the mean of both, where 3255 1/2 becomes 3256; and the lower of two macroblocks
+-- of the backward one; a copy of a copy; the mean of both, where 3255 1/2 becomes 3256; of both directions with one reference, a copy of that
+-- one; and the lower of two macroblocks
 abbrev pub copies : List Left
 copies =
     left wide (step 1 (some 0) none 1 0 Absent Absent ∷ []) 1 luma 511 511 (8 * 511)
     ∷ left wide (step 2 none (some 0) 1 0 Absent still ∷ []) 2 cr 255 2255 (64 * 2255)
     ∷ left wide (step 1 (some 0) none 1 0 Absent Absent ∷ step 2 (some 1) none 1 0 still Absent ∷ []) 2 cb 255 1255 (64 * 1255)
     ∷ left wide (step 2 (some 0) (some 1) 1 0 still still ∷ []) 2 cb 255 3256 (32 * (1255 + 5256))
+    ∷ left wide (step 2 (some 0) none 1 0 still still ∷ []) 2 cb 255 1255 (64 * 1255)
+    ∷ left wide (step 2 none (some 0) 1 0 still still ∷ []) 2 cr 255 2255 (64 * 2255)
     ∷ left high (step 1 (some 0) none 0 1 Absent Absent ∷ []) 1 cb 127 1127 (8 * 1127)
     ∷ left high (step 2 (some 0) (some 1) 0 1 still still ∷ []) 2 cr 127 4128 (32 * (2127 + 6128))
     ∷ []
@@ -104,6 +107,9 @@ byFields =
     ∷ left high (fieldStep 2 (some 0) (some 1) 0 1 crossing bottoms ∷ []) 2 cr 125 4110 (8 * (2 * (2100 + 2101) + 2 * (6111 + 6127)))
     -- row 8 of Cb in 4:2:2, by (1, 3) and (0, 4)
     ∷ left wide (fieldStep 2 (some 0) (some 1) 1 0 crossing bottoms ∷ []) 2 cb 140 3213 (8 * (1188 + 1189 + 1220 + 1221 + 4 * 5221))
+    -- of both directions one reference, by its own pair of vectors: the sample of the first row, forward alone and backward alone
+    ∷ left high (fieldStep 2 (some 0) none 0 1 crossing bottoms ∷ []) 2 luma 505 408 (2 * 8 * (391 + 392 + 423 + 424))
+    ∷ left high (fieldStep 2 none (some 1) 0 1 crossing bottoms ∷ []) 2 luma 505 4477 (2 * 8 * (2 * (4476 + 4477)))
     ∷ []
 
 -- ---- what is refused in the wide pictures: by the table, by the prediction and by placing
@@ -123,11 +129,15 @@ Refuses r =
 abbrev pub refused : Step → ℕ → ℕ → ℕ → Refused
 refused s table predicting placing = record { step = s; table = table; predicting = predicting; placing = placing }
 
--- without a reference; a position that is too far; a cell outside the picture
+-- without the one reference that is used, and without both of two; with one of two, which is refused by nothing; a position that is too far; a cell
+-- outside the picture
 abbrev pub refusals : List Refused
 refusals =
     refused (step 2 none (some 1) 0 0 Absent Absent) 16 16 0
-    ∷ refused (step 2 (some 0) none 0 0 still still) 17 17 0
+    ∷ refused (step 2 (some 0) none 0 0 Absent still) 17 17 0
+    ∷ refused (step 2 none none 0 0 still still) 16 16 0
+    ∷ refused (step 2 (some 0) none 0 0 still still) 0 0 0
+    ∷ refused (step 2 none (some 1) 0 0 still still) 0 0 0
     ∷ refused (step 2 (some 0) (some 1) 1024 0 Absent Absent) 13 13 20
     ∷ refused (step 2 (some 0) (some 1) 0 1024 Absent Absent) 13 13 20
     ∷ refused (step 2 (some 0) (some 1) 2 0 still still) 20 0 20
