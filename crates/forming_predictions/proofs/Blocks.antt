@@ -47,12 +47,6 @@ block-ext w h f g x y e = tab-ext (w * h) _ _ (λ k p. e _ _)
 -- ---- rows that are handed on
 -- two rows that lie in the samples, handed on as parts, and what their samples are
 module _ (s : List ℕ) (w a b : ℕ) (p : a + w ≤ length s) (q : b + w ≤ length s) where
-  pub parts-fit : (x dx n : ℕ) → x + dx + n ≤ w → RowFits (take (a + w - a) (drop a s)) (take (b + w - b) (drop b s)) x dx n
-  parts-fit x dx n h =
-      let l = part_length s a (a + w) p in
-      let m = part_length s b (b + w) q in
-      record { right = omega arith; same = omega arith }
-
   pub parts-two : (x dx gap c : ℕ) → b ≡ a + gap → x + dx + c < w
       → twoOf (take (a + w - a) (drop a s)) (take (b + w - b) (drop b s)) x dx c ≡ twoOf s s (a + x) (gap + dx) c
   unfolding twoOf
@@ -75,15 +69,6 @@ module _ {s : List ℕ} {w first step count x y dx dy n : ℕ} (f : ViewFits s w
 
   abbrev below : ℕ
   below = lineStart first step w (y + dy)
-
-  pub here-room : here + w ≤ length s
-  here-room = f.room y (omega (arith, i.below))
-
-  pub below-room : below + w ≤ length s
-  below-room = f.room (y + dy) (omega (arith, i.below))
-
-  pub line-rows : {a b : ℕ} → a ≡ here → b ≡ below → RowFits (take (a + w - a) (drop a s)) (take (b + w - b) (drop b s)) x dx n
-  line-rows {a} {b} p q = parts-fit s w a b (rw p here-room) (rw q below-room) x dx n i.right
 
   pub same_rows : {a b : ℕ} → a ≡ here → b ≡ below → dy ≡ 0 → take (b + w - b) (drop b s) ≡ take (a + w - a) (drop a s)
   same_rows {a} {b} p q e =
@@ -191,11 +176,6 @@ clamped-is row below x dx p q = rw (p, q)
 -- ---- a line that is read in clamped columns
 module _ {s columns : List ℕ} {w first step count : ℕ} (f : ViewFits s w first step count) (g : ColumnsFit columns w) (y : ℤ) {a : ℕ}
     (p : a ≡ lineStart first step w (clampTo count y)) where
-  pub fetch-columns : ColumnsFit columns (length (take (a + w - a) (drop a s)))
-  fetch-columns =
-      let l = clamped-length f y p in
-      record { some = g.some; few = g.few; even = g.even; inside = λ k h. omega (arith, g.inside k h) }
-
   pub fetch-cells : (k : ℕ) → k < length columns
       → get_or (take (a + w - a) (drop a s)) (get_or columns k 0) 0 ≡ picked s w first step count columns y k
   unfolding picked
@@ -337,13 +317,6 @@ unfolding insideOf
 inside-yes (pos a) n limit e = (refl, leb-true (a + n) limit e)
 inside-yes (negsuc a) n limit e = let z : ◌≡◌ {A = ℕ} 0 1 = cc in absurd (omega arith)
 
--- how much a block reads at most
-pub region-most : {dx dy bw bh : ℕ} {o : List ℕ} → BlockFits dx dy bw bh o → (bw + dx) * (bh + dy) ≤ (bw + 1) * 17
-region-most {dx} {dy} {bw} {bh} b =
-    let p : bw + dx ≤ bw + 1 = omega (arith, b.right) in
-    let q : bh + dy ≤ 17 = omega (arith, b.high, b.down) in
-    mul-le-mul p q
-
 -- ---- fronts of local arrays: the columns that a block reads, and room for its samples
 pub front : (l : List ℕ) (n : ℕ) → n ≤ length l → length (take (n - 0) l) ≡ n
 front l n h = length-take-le (n - 0) l (omega arith) ∙ omega arith
@@ -354,45 +327,12 @@ front-tab m n f h =
     let here : m - 0 ≡ m = omega arith in
     rw (here, all, ← tab-append m (n - m) f) (take_at (tabulate m f) _ m (length-tab m f))
 
-module _ {columns region : List ℕ} {w dx dy bw bh : ℕ} {o : List ℕ} (f : FetchFits columns region w bw) (b : BlockFits dx dy bw bh o) where
-  pub front-columns-length : length (take (bw + dx - 0) columns) ≡ bw + dx
-  front-columns-length = front columns (bw + dx) (omega (arith, f.columns-count, b.right))
-
-  pub front-columns : Eights bw → ColumnsFit (take (bw + dx - 0) columns) w
-  front-columns e =
-      let l = front-columns-length in
-      record {
-        some = omega (arith, e.some);
-        few = omega (arith, e.wide, b.right);
-        even = omega (arith, e.some, e.wide, e.even, b.right);
-        inside = λ k h. rw (get_or-take (bw + dx - 0) columns k 0 (omega arith)) (f.inside k (omega (arith, f.columns-count, b.right)));
-      }
-
-  pub front-region : RegionFits (take (bw + dx - 0) columns) (take ((bw + dx) * (bh + dy) - 0) region) dx dy bw bh
-  front-region =
-      record {
-        columns-count = front-columns-length;
-        region-count = front region ((bw + dx) * (bh + dy)) (omega (arith, region-most b, f.region-count));
-      }
-
 -- ---- a view without samples reads as one of a single 0
 zero-read : (x y : ℤ) → viewRead (0 ∷ []) 1 0 1 1 x y ≡ 0
 unfolding viewRead
 zero-read x y =
     let line : lineStart 0 1 1 (clampTo 1 y) + clampTo 1 x ≡ 0 = omega (arith, clamp-lt 1 x (omega arith), clamp-lt 1 y (omega arith)) in
     rw line
-
-pub zero-view : ViewFits (0 ∷ []) 1 0 1 1
-zero-view =
-    record {
-      some = omega arith;
-      wide = omega arith;
-      low = omega arith;
-      apart = omega arith;
-      lines = omega arith;
-      high = omega arith;
-      room = λ j i. omega arith;
-    }
 
 pub empty_block : (s : List ℕ) (w first step count : ℕ) (x y : ℤ) (dx dy bw bh : ℕ) → length s ≡ 0
     → block_of bw bh (λ (a b : ℤ). spread (viewRead (0 ∷ []) 1 0 1 1) a b dx dy) x y

@@ -1,6 +1,5 @@
 -- Facts about the definitions of specs/, for their reader, for the proofs of the calls and for the crates above.
 pub mod Splitting
-pub mod Undivided
 pub mod Lines
 pub mod Views
 pub mod RowMeans
@@ -11,3 +10,5 @@ pub mod Forming
 pub mod Refusals
 pub mod SampleAnswers
 pub mod BlockAnswers
+pub mod Undivided
+pub mod Reading

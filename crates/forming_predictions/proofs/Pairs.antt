@@ -67,8 +67,5 @@ module _ (a b c d : ℕ) where
   right =
       taken ((a + b) % 2) ((c + d) % 2) ((upper + lower) % 2) (omega arith) (omega arith) (omega arith) (twice a b) (twice c d) (twice upper lower)
 
-  pub excess-below : excess ≤ mean2 upper lower
-  excess-below = rw excess-is right.0
-
   pub of-pairs : mean2 upper lower - excess ≡ mean4 a b c d
   of-pairs = rw excess-is right.1

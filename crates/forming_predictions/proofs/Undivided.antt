@@ -4,11 +4,11 @@ use mathlib.Core.Path.{◌≡◌, refl}
 use mathlib.Core.Bool.{Bool, true, false, ◌&&◌}
 use mathlib.Core.List.{List, []}
 use Prim.Native.Nat.{ℕ}
-use mir.Syntax.{Name, Place, Opd, Sign, Body, Arms, op2, seq, assign, block, loop, cond, switch, call, arm, default}
+use mir.Syntax.{Symbol, Callee, Place, Opd, Sign, Op2, Sig, Body, Arms, op2, seq, assign, block, loop, cond, switch, call, call_v, arm, default, fn, method, forked, awaited, prim}
 use mir.Syntax as S
-use Rattle.forming_predictions.specs.Undivided.{undivided, undividedArms}
+use Rattle.forming_predictions.specs.Undivided.{isDivision, undivided, undividedArms}
 
-module _ (ns : List Name) (p : Place) (x y : Opd) where
+module _ (ns : List Symbol) (p : Place) (x y : Opd) where
   pub division : (s : Sign) → undivided ns (assign p (op2 (S.div s) x y)) ≡ false
   division s = refl
 
@@ -21,13 +21,23 @@ module _ (ns : List Name) (p : Place) (x y : Opd) where
   pub float-remainder : undivided ns (assign p (op2 S.float_rem x y)) ≡ false
   float-remainder = refl
 
+  -- likewise of the lanes of vectors, whatever the operator
+  pub of-lanes : (o : Op2) → isDivision o ≡ true → undivided ns (assign p (op2 (S.map2 o) x y)) ≡ false
+  of-lanes o h = rw h
+
+  pub of-masks : (o : Op2) → isDivision o ≡ true → undivided ns (assign p (op2 (S.mask o) x y)) ≡ false
+  of-masks o h = rw h
+
+  pub of-folds : (o : Op2) → isDivision o ≡ true → undivided ns (assign p (op2 (S.fold o) x y)) ≡ false
+  of-folds o h = rw h
+
 -- ---- what is seen in a part is seen in the whole
 
 and-false : (b : Bool) → (b && false) ≡ false
 and-false true = refl
 and-false false = refl
 
-module _ (ns : List Name) (a : Body) (h : undivided ns a ≡ false) where
+module _ (ns : List Symbol) (a : Body) (h : undivided ns a ≡ false) where
   pub in-first : (b : Body) → undivided ns (seq a b) ≡ false
   in-first b = rw h
 
@@ -52,10 +62,18 @@ module _ (ns : List Name) (a : Body) (h : undivided ns a ≡ false) where
   pub in-default : (x : Opd) → undivided ns (switch x (default a)) ≡ false
   in-default x = h
 
-pub in-later-arm : (ns : List Name) (rest : Arms) → undividedArms ns rest ≡ false
+pub in-later-arm : (ns : List Symbol) (rest : Arms) → undividedArms ns rest ≡ false
     → (x : Opd) (ks : List ℕ) (b : Body) → undivided ns (switch x (arm ks b rest)) ≡ false
 in-later-arm ns rest h x ks b = rw h (and-false (undivided ns b))
 
--- a function that is not in the list
-pub other-call : (n : Name) (xs : List Opd) (p : Place) → undivided [] (call n xs p) ≡ false
-other-call n xs p = refl
+-- a function that is not in the list, however it is named
+pub other-call : (f : Callee) (xs : List Opd) (p : Place) → undivided [] (call f xs p) ≡ false
+other-call (fn n a) xs p = refl
+other-call (method d n a) xs p = refl
+other-call (forked ts f) xs p = refl
+other-call (awaited ts) xs p = refl
+other-call (prim a) xs p = refl
+
+-- one that is called by its address, whatever the list
+pub unnamed-call : (ns : List Symbol) (f : Opd) (s : Sig) (xs : List Opd) (p : Place) → undivided ns (call_v f s xs p) ≡ false
+unnamed-call ns f s xs p = refl

@@ -25,37 +25,11 @@ sides-some zero h p = absurd (omega (arith, zero-mul h))
 sides-some (suc w) zero p = absurd (omega (arith, mul-zero (suc w)))
 sides-some (suc w) (suc h) p = (omega arith, omega arith)
 
--- the place of a line's first sample fits a usize, and so do the numbers on the way to it
-pub start_fits : (row w : ℕ) → row ≤ 32769 → w ≤ 16384 → Fits w64 (row * w)
-start_fits row w p q = record { fits = omega (arith, mul-le-mul p q) }
-
-pub row_small : (first step line : ℕ) → first ≤ 1 → step ≤ 2 → line ≤ 16384 → first + step * line ≤ 32769
-row_small first step line p q r = omega (arith, mul-le-mul q r)
-
-pub row_fits : (first step line : ℕ) → first ≤ 1 → step ≤ 2 → line ≤ 16384 → Fits w64 (first + step * line)
-row_fits first step line p q r = record { fits = omega (arith, row_small first step line p q r) }
-
 -- the place that is read lies in the samples
 pub place-lt : {s : List ℕ} {w first step count : ℕ} (x y : ℤ) → ViewFits s w first step count
     → lineStart first step w (clampTo count y) + clampTo w x < length s
 place-lt {s} {w} {first} {step} {count} x y f =
     omega (arith, f.room (clampTo count y) (clamp-lt count y f.lines), clamp-lt w x f.some)
-
--- fewer steps from a coordinate, and steps from one that is k further
-steps-fit : {z : ℤ} {m n : ℕ} → Steps m z → n ≤ m → SFits w32 (z +ℤ pos n)
-steps-fit {z} {m} {n} r h =
-    let a = add-z z (pos n) in
-    let b = add-z z (pos m) in
-    let c = sfits-lo w32 z r.here in
-    let d = sfits-hi w32 (z +ℤ pos m) r.last in
-    sfits-z w32 (z +ℤ pos n) (omega arith) (omega arith)
-
-pub steps-fewer : {z : ℤ} {m n : ℕ} → Steps m z → n ≤ m → Steps n z
-steps-fewer r h = record { here = r.here; last = steps-fit r h }
-
-pub steps_on : {z : ℤ} {m n : ℕ} (k : ℕ) → Steps m z → k + n ≤ m → Steps n (z +ℤ pos k)
-steps_on {z} {m} {n} k r h =
-    record { here = steps-fit r (omega arith); last = rw (+ℤ_assoc z (pos k) (pos n)) (steps-fit r h) }
 
 -- the rows of a plane that has samples are a view
 pub rows-view : {r : Rows} {s : List ℕ} {w h : ℕ} → RowsFit r h → w ≤ 16384 → h ≤ 16384 → length s ≡ w * h → 0 < length s

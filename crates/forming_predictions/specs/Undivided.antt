@@ -1,17 +1,20 @@
 -- What it is for code to hold neither a division nor a remainder (docs/changes/07-halving.md). It is said of the code as the compiler takes it
--- (`rt mir`), which has each operator that runs; constants and lengths of arrays are numbers there. Nothing here is the standard's or the scope's.
+-- (a function's `Code`), which has each operator that runs; constants and lengths of arrays are numbers there. Nothing here is the standard's or the scope's.
 -- The proofs of `split_vector`, `split_component`, `whole_part` and `is_half` each have `undivided` of the function's own code.
 use Rattle.std.specs.Prelude.{Bool, true, false, not, ◌&&◌, ◌||◌, List, [], ◌∷◌}
 use lib.Text.{eqt}
-use mir.Syntax.{Name, Op2, Rv, Body, Arms, rv_opd, op2, op1, addr_of, aggregate, repeat, skip, seq, assign, block, loop, cond, switch, exit, return, call, arm, default, no_default}
+use mir.Syntax.{Symbol, Callee, Op2, Rv, Body, Arms, rv_opd, op2, op1, addr_of, aggregate, repeat, repeat_p, select, skip, seq, assign, block, loop, cond, switch, exit, return, call, unreachable, call_v, lend_static, arm, default, no_default, fn, method, forked, awaited, prim}
 use mir.Syntax as S
 
--- a division or a remainder, of integers or of floats; each operator is named, so that none is passed over
+-- a division or a remainder, of integers, of floats or of the lanes of vectors; each operator is named, so that none is passed over
 abbrev pub isDivision : Op2 → Bool
 isDivision (S.div s) = true
 isDivision (S.rem s) = true
 isDivision S.float_div = true
 isDivision S.float_rem = true
+isDivision (S.map2 o) = isDivision o
+isDivision (S.mask o) = isDivision o
+isDivision (S.fold o) = isDivision o
 isDivision (S.add s) = false
 isDivision (S.sub s) = false
 isDivision (S.mul s) = false
@@ -37,6 +40,12 @@ isDivision S.float_eq = false
 isDivision S.float_ne = false
 isDivision S.float_lt = false
 isDivision S.float_le = false
+isDivision S.wrap_add = false
+isDivision S.wrap_sub = false
+isDivision S.wrap_mul = false
+isDivision (S.shuffle ns) = false
+isDivision (S.swizzle n) = false
+isDivision S.dot4 = false
 
 -- a value that is computed by one
 abbrev pub divides : Rv → Bool
@@ -46,14 +55,26 @@ divides (op1 o x) = false
 divides (addr_of p) = false
 divides (aggregate xs) = false
 divides (repeat x n) = false
+divides (repeat_p x n) = false
+divides (select x y z) = false
 
-abbrev pub isAmong : List Name → Name → Bool
+abbrev pub isAmong : List Symbol → Symbol → Bool
 isAmong [] n = false
 isAmong (m ∷ ms) n = eqt m n || isAmong ms n
 
--- no division or remainder stands anywhere in the code, and each function that it calls is one of these
+-- a call of a function of the list: a trait's method is not known, and a thread's start and join and the steps that threads share are not
+-- calls of one
+abbrev pub isCallOf : List Symbol → Callee → Bool
+isCallOf ns (fn n xs) = isAmong ns n
+isCallOf ns (method d n xs) = false
+isCallOf ns (forked ts f) = false
+isCallOf ns (awaited ts) = false
+isCallOf ns (prim a) = false
+
+-- no division or remainder stands anywhere in the code, and each function that it calls is one of these; one that is called by its address
+-- might be another
 abbrev mutual
-  pub undivided : List Name → Body → Bool
+  pub undivided : List Symbol → Body → Bool
   undivided ns skip = true
   undivided ns (seq a b) = undivided ns a && undivided ns b
   undivided ns (assign p v) = not (divides v)
@@ -63,9 +84,12 @@ abbrev mutual
   undivided ns (switch x a) = undividedArms ns a
   undivided ns (exit n) = true
   undivided ns return = true
-  undivided ns (call n xs p) = isAmong ns n
+  undivided ns (call f xs p) = isCallOf ns f
+  undivided ns unreachable = true
+  undivided ns (call_v f s xs p) = false
+  undivided ns (lend_static p t k) = true
 
-  pub undividedArms : List Name → Arms → Bool
+  pub undividedArms : List Symbol → Arms → Bool
   undividedArms ns (arm ks a b) = undivided ns a && undividedArms ns b
   undividedArms ns (default a) = undivided ns a
   undividedArms ns no_default = true

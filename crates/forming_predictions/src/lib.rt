@@ -1,6 +1,7 @@
 //! ISO/IEC 13818-2, 7.6.4: forming predictions. A motion vector in half samples leads to one, two or four samples of a reference frame
 //! or field; a predicted sample is their rounded mean.
 #![tactic(auto)]
+
 ghost use Rattle.std.specs.Prelude.{◌≡◌, not, ◌||◌, ℕ, ◌+◌, ◌*◌, ◌/◌, ◌%◌, ◌≤◌, ◌<◌, ℤ, pos, ◌+ℤ◌, eqb, length, get_or};
 ghost use Rattle.laws.specs.Tabulate.{tabulate};
 ghost use Rattle.laws.proofs.Bounded.{Within};

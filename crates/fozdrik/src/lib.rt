@@ -1,7 +1,274 @@
-//! The C interface of the card: four entry points on numbers and byte slices, over the calls of the layers.
+//! The C interface of the card: four entry points, each of which is the call of `entry_points` with its name.
 #![tactic(auto)]
 
-/// The entry points that predict.
-pub mod prediction;
-/// The entry points for vectors and predictors, with their buffers.
-pub mod vectors;
+ghost use Rattle.std.specs.Prelude.{◌≡◌, cond, [], ◌∷◌, length};
+ghost use Rattle.combine_predictions.specs.Refusals.{or_else, unlessRefused};
+ghost use Rattle.forming_predictions.specs.Means.{rounded};
+ghost use Rattle.pmv.specs.Update.{updateRefusal, updateOutcome, outcomeNumber, updated};
+ghost use Rattle.pmv.specs.Answers.{vectorNumber};
+ghost use Rattle.inter_reconstruction.specs.Motion.{frameUses, fieldUses};
+ghost use Rattle.inter_reconstruction.specs.Frames.{samplesOf, lengthsOf, isPresent, readReference};
+ghost use Rattle.inter_reconstruction.specs.Macroblock.{predicted};
+ghost use Rattle.inter_reconstruction.specs.Refusals.{predictionRefusal};
+ghost use Rattle.entry_points.specs.Layout.{predictorsOf, predictorBytes, withPair};
+ghost use Rattle.entry_points.specs.Entries.{unknownRefusal, vectorKnown, updateKnown, frameKnown, fieldKnown, indexOf, directionOf, format_of, structureOf, motionVectorOf, context_of, vectorFrom, vectorBytes, geometryOf, referenceOf, frameMotionOf, fieldMotionOf};
+
+/// A vector's two components against its predictors: 0, or the number of the refusal.
+#[unsafe(no_mangle)]
+pub extern "C" fn fozdrik_reconstruct_motion_vector(
+    r: u32,
+    s: u32,
+    motion_code_horiz: i32,
+    motion_residual_horiz_present: u32,
+    motion_residual_horiz: u8,
+    motion_code_vert: i32,
+    motion_residual_vert_present: u32,
+    motion_residual_vert: u8,
+    f_code_horiz: u8,
+    f_code_vert: u8,
+    mv_format: u32,
+    picture_structure: u32,
+    predictors: &mut [u8],
+    vector: &mut [u8],
+) -> u32
+    ensures number { result ≡ or_else (unknownRefusal (vectorKnown r s motion_residual_horiz_present motion_residual_vert_present mv_format picture_structure (length predictors.old) (length vector.old))) (vectorNumber (vectorFrom predictors.old (indexOf r) (directionOf s) (motionVectorOf motion_code_horiz motion_residual_horiz_present motion_residual_horiz motion_code_vert motion_residual_vert_present motion_residual_vert) f_code_horiz f_code_vert (format_of mv_format) (structureOf picture_structure)).answer) }
+    ensures predictors { predictors.new ≡ cond (vectorKnown r s motion_residual_horiz_present motion_residual_vert_present mv_format picture_structure (length predictors.old) (length vector.old)) (withPair predictors.old (indexOf r) (directionOf s) (vectorFrom predictors.old (indexOf r) (directionOf s) (motionVectorOf motion_code_horiz motion_residual_horiz_present motion_residual_horiz motion_code_vert motion_residual_vert_present motion_residual_vert) f_code_horiz f_code_vert (format_of mv_format) (structureOf picture_structure)).predictors) predictors.old }
+    ensures vector { vector.new ≡ cond (vectorKnown r s motion_residual_horiz_present motion_residual_vert_present mv_format picture_structure (length predictors.old) (length vector.old)) (vectorBytes (vectorFrom predictors.old (indexOf r) (directionOf s) (motionVectorOf motion_code_horiz motion_residual_horiz_present motion_residual_horiz motion_code_vert motion_residual_vert_present motion_residual_vert) f_code_horiz f_code_vert (format_of mv_format) (structureOf picture_structure)).answer vector.old) vector.old }
+{
+    entry_points::vectors::fozdrik_reconstruct_motion_vector(
+        r,
+        s,
+        motion_code_horiz,
+        motion_residual_horiz_present,
+        motion_residual_horiz,
+        motion_code_vert,
+        motion_residual_vert_present,
+        motion_residual_vert,
+        f_code_horiz,
+        f_code_vert,
+        mv_format,
+        picture_structure,
+        predictors,
+        vector,
+    )
+}
+
+/// The predictors after a macroblock, and the outcome's number in one byte: 0, or the number of the refusal.
+#[unsafe(no_mangle)]
+pub extern "C" fn fozdrik_update_predictors(
+    picture_structure: u32,
+    prediction_type_present: u32,
+    prediction_type: u32,
+    macroblock_motion_forward: u32,
+    macroblock_motion_backward: u32,
+    macroblock_intra: u32,
+    concealment_motion_vectors: u32,
+    predictors: &mut [u8],
+    outcome: &mut [u8],
+) -> u32
+    ensures number { result ≡ or_else (unknownRefusal (updateKnown picture_structure prediction_type_present prediction_type macroblock_motion_forward macroblock_motion_backward macroblock_intra concealment_motion_vectors (length predictors.old) (length outcome.old))) (updateRefusal (context_of picture_structure prediction_type_present prediction_type macroblock_motion_forward macroblock_motion_backward macroblock_intra concealment_motion_vectors)) }
+    ensures predictors { predictors.new ≡ unlessRefused result (predictorBytes (updated (predictorsOf predictors.old) (context_of picture_structure prediction_type_present prediction_type macroblock_motion_forward macroblock_motion_backward macroblock_intra concealment_motion_vectors)).pmv) predictors.old }
+    ensures outcome { outcome.new ≡ unlessRefused result (outcomeNumber (updateOutcome (context_of picture_structure prediction_type_present prediction_type macroblock_motion_forward macroblock_motion_backward macroblock_intra concealment_motion_vectors)) ∷ []) outcome.old }
+{
+    entry_points::vectors::fozdrik_update_predictors(
+        picture_structure,
+        prediction_type_present,
+        prediction_type,
+        macroblock_motion_forward,
+        macroblock_motion_backward,
+        macroblock_intra,
+        concealment_motion_vectors,
+        predictors,
+        outcome,
+    )
+}
+
+/// The prediction of a frame-based macroblock: 0, or the number of the refusal.
+#[unsafe(no_mangle)]
+pub extern "C" fn fozdrik_predict_frame_macroblock(
+    width: usize,
+    height: usize,
+    chroma_format: u32,
+    mb_col: usize,
+    mb_row: usize,
+    forward_present: u32,
+    forward_width: usize,
+    forward_height: usize,
+    forward_format: u32,
+    forward_y_width: usize,
+    forward_y_height: usize,
+    forward_cb_width: usize,
+    forward_cb_height: usize,
+    forward_cr_width: usize,
+    forward_cr_height: usize,
+    forward_y: &[u8],
+    forward_cb: &[u8],
+    forward_cr: &[u8],
+    backward_present: u32,
+    backward_width: usize,
+    backward_height: usize,
+    backward_format: u32,
+    backward_y_width: usize,
+    backward_y_height: usize,
+    backward_cb_width: usize,
+    backward_cb_height: usize,
+    backward_cr_width: usize,
+    backward_cr_height: usize,
+    backward_y: &[u8],
+    backward_cb: &[u8],
+    backward_cr: &[u8],
+    forward_motion: u32,
+    forward_horizontal: i32,
+    forward_vertical: i32,
+    backward_motion: u32,
+    backward_horizontal: i32,
+    backward_vertical: i32,
+    out: &mut [u8],
+) -> u32
+    ensures number { result ≡ or_else (unknownRefusal (frameKnown chroma_format forward_present forward_format backward_present backward_format forward_motion backward_motion)) (predictionRefusal (geometryOf width height chroma_format) (length out.old) (referenceOf forward_present forward_width forward_height forward_format forward_y_width forward_y_height forward_cb_width forward_cb_height forward_cr_width forward_cr_height) (lengthsOf (samplesOf forward_y.now forward_cb.now forward_cr.now)) (referenceOf backward_present backward_width backward_height backward_format backward_y_width backward_y_height backward_cb_width backward_cb_height backward_cr_width backward_cr_height) (lengthsOf (samplesOf backward_y.now backward_cb.now backward_cr.now)) (frameUses (frameMotionOf forward_motion forward_horizontal forward_vertical backward_motion backward_horizontal backward_vertical) (isPresent (referenceOf forward_present forward_width forward_height forward_format forward_y_width forward_y_height forward_cb_width forward_cb_height forward_cr_width forward_cr_height)) (isPresent (referenceOf backward_present backward_width backward_height backward_format backward_y_width backward_y_height backward_cb_width backward_cb_height backward_cr_width backward_cr_height))) mb_col mb_row) }
+    ensures buffer { out.new ≡ unlessRefused result (predicted rounded (geometryOf width height chroma_format).chroma_format (readReference (referenceOf forward_present forward_width forward_height forward_format forward_y_width forward_y_height forward_cb_width forward_cb_height forward_cr_width forward_cr_height) (samplesOf forward_y.now forward_cb.now forward_cr.now)) (readReference (referenceOf backward_present backward_width backward_height backward_format backward_y_width backward_y_height backward_cb_width backward_cb_height backward_cr_width backward_cr_height) (samplesOf backward_y.now backward_cb.now backward_cr.now)) (frameUses (frameMotionOf forward_motion forward_horizontal forward_vertical backward_motion backward_horizontal backward_vertical) (isPresent (referenceOf forward_present forward_width forward_height forward_format forward_y_width forward_y_height forward_cb_width forward_cb_height forward_cr_width forward_cr_height)) (isPresent (referenceOf backward_present backward_width backward_height backward_format backward_y_width backward_y_height backward_cb_width backward_cb_height backward_cr_width backward_cr_height))) mb_col mb_row) out.old }
+{
+    entry_points::prediction::fozdrik_predict_frame_macroblock(
+        width,
+        height,
+        chroma_format,
+        mb_col,
+        mb_row,
+        forward_present,
+        forward_width,
+        forward_height,
+        forward_format,
+        forward_y_width,
+        forward_y_height,
+        forward_cb_width,
+        forward_cb_height,
+        forward_cr_width,
+        forward_cr_height,
+        forward_y,
+        forward_cb,
+        forward_cr,
+        backward_present,
+        backward_width,
+        backward_height,
+        backward_format,
+        backward_y_width,
+        backward_y_height,
+        backward_cb_width,
+        backward_cb_height,
+        backward_cr_width,
+        backward_cr_height,
+        backward_y,
+        backward_cb,
+        backward_cr,
+        forward_motion,
+        forward_horizontal,
+        forward_vertical,
+        backward_motion,
+        backward_horizontal,
+        backward_vertical,
+        out,
+    )
+}
+
+/// The prediction of a field-based macroblock: 0, or the number of the refusal.
+#[unsafe(no_mangle)]
+pub extern "C" fn fozdrik_predict_field_macroblock(
+    width: usize,
+    height: usize,
+    chroma_format: u32,
+    mb_col: usize,
+    mb_row: usize,
+    forward_present: u32,
+    forward_width: usize,
+    forward_height: usize,
+    forward_format: u32,
+    forward_y_width: usize,
+    forward_y_height: usize,
+    forward_cb_width: usize,
+    forward_cb_height: usize,
+    forward_cr_width: usize,
+    forward_cr_height: usize,
+    forward_y: &[u8],
+    forward_cb: &[u8],
+    forward_cr: &[u8],
+    backward_present: u32,
+    backward_width: usize,
+    backward_height: usize,
+    backward_format: u32,
+    backward_y_width: usize,
+    backward_y_height: usize,
+    backward_cb_width: usize,
+    backward_cb_height: usize,
+    backward_cr_width: usize,
+    backward_cr_height: usize,
+    backward_y: &[u8],
+    backward_cb: &[u8],
+    backward_cr: &[u8],
+    forward_motion: u32,
+    forward_top_field: u32,
+    forward_top_horizontal: i32,
+    forward_top_vertical: i32,
+    forward_bottom_field: u32,
+    forward_bottom_horizontal: i32,
+    forward_bottom_vertical: i32,
+    backward_motion: u32,
+    backward_top_field: u32,
+    backward_top_horizontal: i32,
+    backward_top_vertical: i32,
+    backward_bottom_field: u32,
+    backward_bottom_horizontal: i32,
+    backward_bottom_vertical: i32,
+    out: &mut [u8],
+) -> u32
+    ensures number { result ≡ or_else (unknownRefusal (fieldKnown chroma_format forward_present forward_format backward_present backward_format forward_motion forward_top_field forward_bottom_field backward_motion backward_top_field backward_bottom_field)) (predictionRefusal (geometryOf width height chroma_format) (length out.old) (referenceOf forward_present forward_width forward_height forward_format forward_y_width forward_y_height forward_cb_width forward_cb_height forward_cr_width forward_cr_height) (lengthsOf (samplesOf forward_y.now forward_cb.now forward_cr.now)) (referenceOf backward_present backward_width backward_height backward_format backward_y_width backward_y_height backward_cb_width backward_cb_height backward_cr_width backward_cr_height) (lengthsOf (samplesOf backward_y.now backward_cb.now backward_cr.now)) (fieldUses (fieldMotionOf forward_motion forward_top_field forward_top_horizontal forward_top_vertical forward_bottom_field forward_bottom_horizontal forward_bottom_vertical backward_motion backward_top_field backward_top_horizontal backward_top_vertical backward_bottom_field backward_bottom_horizontal backward_bottom_vertical) (isPresent (referenceOf forward_present forward_width forward_height forward_format forward_y_width forward_y_height forward_cb_width forward_cb_height forward_cr_width forward_cr_height)) (isPresent (referenceOf backward_present backward_width backward_height backward_format backward_y_width backward_y_height backward_cb_width backward_cb_height backward_cr_width backward_cr_height))) mb_col mb_row) }
+    ensures buffer { out.new ≡ unlessRefused result (predicted rounded (geometryOf width height chroma_format).chroma_format (readReference (referenceOf forward_present forward_width forward_height forward_format forward_y_width forward_y_height forward_cb_width forward_cb_height forward_cr_width forward_cr_height) (samplesOf forward_y.now forward_cb.now forward_cr.now)) (readReference (referenceOf backward_present backward_width backward_height backward_format backward_y_width backward_y_height backward_cb_width backward_cb_height backward_cr_width backward_cr_height) (samplesOf backward_y.now backward_cb.now backward_cr.now)) (fieldUses (fieldMotionOf forward_motion forward_top_field forward_top_horizontal forward_top_vertical forward_bottom_field forward_bottom_horizontal forward_bottom_vertical backward_motion backward_top_field backward_top_horizontal backward_top_vertical backward_bottom_field backward_bottom_horizontal backward_bottom_vertical) (isPresent (referenceOf forward_present forward_width forward_height forward_format forward_y_width forward_y_height forward_cb_width forward_cb_height forward_cr_width forward_cr_height)) (isPresent (referenceOf backward_present backward_width backward_height backward_format backward_y_width backward_y_height backward_cb_width backward_cb_height backward_cr_width backward_cr_height))) mb_col mb_row) out.old }
+{
+    entry_points::prediction::fozdrik_predict_field_macroblock(
+        width,
+        height,
+        chroma_format,
+        mb_col,
+        mb_row,
+        forward_present,
+        forward_width,
+        forward_height,
+        forward_format,
+        forward_y_width,
+        forward_y_height,
+        forward_cb_width,
+        forward_cb_height,
+        forward_cr_width,
+        forward_cr_height,
+        forward_y,
+        forward_cb,
+        forward_cr,
+        backward_present,
+        backward_width,
+        backward_height,
+        backward_format,
+        backward_y_width,
+        backward_y_height,
+        backward_cb_width,
+        backward_cb_height,
+        backward_cr_width,
+        backward_cr_height,
+        backward_y,
+        backward_cb,
+        backward_cr,
+        forward_motion,
+        forward_top_field,
+        forward_top_horizontal,
+        forward_top_vertical,
+        forward_bottom_field,
+        forward_bottom_horizontal,
+        forward_bottom_vertical,
+        backward_motion,
+        backward_top_field,
+        backward_top_horizontal,
+        backward_top_vertical,
+        backward_bottom_field,
+        backward_bottom_horizontal,
+        backward_bottom_vertical,
+        out,
+    )
+}

@@ -11,7 +11,6 @@ use borrow.Author.Tests.{ltb-false, eqb-true}
 use Rattle.laws.proofs.Tests.{not_taken, not_left, both}
 use Rattle.combine_predictions.specs.Refusals.{wrongLength, cause, or_else, unlessRefused}
 use Rattle.combine_predictions.specs.declared.PredictionDirection.{PredictionDirection}
-use Rattle.combine_predictions.specs.declared.PredictionDirection.TheVariants as PredictionDirection
 use Rattle.forming_predictions.specs.Means.{rounded}
 use Rattle.forming_predictions.specs.Refusals.{planeFits}
 use Rattle.pmv.specs.declared.kinds.ChromaFormat.{ChromaFormat}
@@ -147,3 +146,20 @@ module _ (f : ChromaFormat) (forward backward : ColourComponent → PlaneReading
   pub backward-alone : directed f backward d col row ≡ predicted rounded f forward backward (Backward d) col row
   unfolding macroblock rectangle usedSample
   backward-alone = refl
+
+  -- and so a buffer that was written from one direction, by the number, is written by the answer
+  pub forward-written : (u : Uses) (r : MacroblockPrediction) (n : ℕ) (o old : List ℕ)
+      → Forward d ≡ u
+      → r ≡ predictionAnswer n
+      → o ≡ unlessRefused n (directed f forward d col row) old
+      → o ≡ unlessRefused (predictionNumber r) (predicted rounded f forward backward u col row) old
+  forward-written u r n o old e a w =
+      rw (← e) (by_answer r n o _ old a (w ∙ ap (λ (z : List ℕ). unlessRefused n z old) forward-alone))
+
+  pub backward-written : (u : Uses) (r : MacroblockPrediction) (n : ℕ) (o old : List ℕ)
+      → Backward d ≡ u
+      → r ≡ predictionAnswer n
+      → o ≡ unlessRefused n (directed f backward d col row) old
+      → o ≡ unlessRefused (predictionNumber r) (predicted rounded f forward backward u col row) old
+  backward-written u r n o old e a w =
+      rw (← e) (by_answer r n o _ old a (w ∙ ap (λ (z : List ℕ). unlessRefused n z old) backward-alone))

@@ -8,4 +8,3 @@ pub mod Lists
 pub mod Vectors
 pub mod Facts
 pub mod Chrominance
-pub mod Lending

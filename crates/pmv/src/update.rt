@@ -260,6 +260,7 @@ fn row_unless(decided: bool, other: u8, row: u8) -> u8
 }
 
 /// Which row of the tables the context asks for.
+#[tactic(auto, unfolding(crate::specs::inner::Rows::rowFor))]
 fn decide(ctx: PmvUpdateContext) -> u8
     ensures { result ≡ decidedRow ctx }
 {
@@ -284,6 +285,7 @@ fn decide(ctx: PmvUpdateContext) -> u8
 }
 
 /// The outcome with this number, which is at most 7.
+#[tactic(auto, unfolding(crate::specs::inner::Rows::outcomeOf))]
 fn outcome_of(number: u8) -> PmvUpdateOutcome
     ensures { result ≡ outcomeOf number }
 {
@@ -312,6 +314,7 @@ fn outcome_of(number: u8) -> PmvUpdateOutcome
 }
 
 /// The answer that a row stands for. Both parts are made before the test, so that it chooses and does not jump.
+#[tactic(auto, unfolding(crate::specs::inner::Rows::answer_of))]
 fn answer_of(row: u8) -> Updated
     ensures { result ≡ answer_of row }
 {
@@ -368,6 +371,7 @@ pub fn updated_predictors(pmv: Pmv, ctx: PmvUpdateContext) -> PredictorUpdate
 }
 
 /// All predictors become zero where a macroblock of a P or B picture is predicted spatially alone, which is weight class 4.
+#[tactic(auto, unfolding(crate::specs::Update::spatialTemporalReset))]
 pub fn spatial_temporal_reset_applied(
     pmv: Pmv,
     picture_coding_type: PictureCodingType,

@@ -5,6 +5,7 @@
 //! The functions promise nothing, and all but one take every input: an index is tested, and sums and products are kept from overflowing by
 //! remainders and by wrapping sums, which change nothing for the pictures at hand.
 #![tactic(auto)]
+
 ghost use Rattle.std.specs.Prelude.{◌≤◌};
 
 use drift::drift_bound;
@@ -18,9 +19,9 @@ use inter_reconstruction::motion::{
     MotionVectorPel,
 };
 use inter_reconstruction::placing::{MacroblockPlacement, place_macroblock};
-use libc::STDOUT_FILENO;
 use pmv::chroma::scale_chroma;
 use pmv::kinds::ChromaFormat;
+use std::io;
 
 // ---- Nineteen pictures of 48 columns and 48 rows, 4:2:0. The planes of one component stand one after the other in one buffer.
 
@@ -74,11 +75,9 @@ fn sample_of(s: u64) -> u8 {
 
 fn draw(samples: &mut [u8], seed: u64) {
     let mut s = seed;
-    let mut i: usize = 0;
-    while i < samples.len() {
+    for sample in samples.iter_mut() {
         s = next_draw(s);
-        samples[i] = sample_of(s);
-        i += 1;
+        *sample = sample_of(s);
     }
 }
 
@@ -117,11 +116,8 @@ fn first_luminance(list: Steps, i: usize, drawn: u8) -> u8 {
 
 /// Sets picture 0's luminance.
 fn set_first_luminance(list: Steps, samples: &mut [u8]) {
-    let mut i: usize = 0;
-    while i < samples.len() {
-        let drawn = samples[i];
-        samples[i] = first_luminance(list, i, drawn);
-        i += 1;
+    for (i, sample) in samples.iter_mut().enumerate() {
+        *sample = first_luminance(list, i, *sample);
     }
 }
 
@@ -181,13 +177,11 @@ struct Draws {
 fn draw_for(step: usize, seed: u64) -> Draws {
     let mut numbers = [0u64; 22];
     let mut state = seed;
-    let mut i: usize = 0;
-    while i < 22 {
+    for number in numbers.iter_mut() {
         let first = next_draw(state);
         let second = next_draw(first);
         state = next_draw(second);
-        numbers[i] = joined(first, second, state);
-        i += 1;
+        *number = joined(first, second, state);
     }
     Draws {
         step: step,
@@ -548,11 +542,8 @@ fn picture_of(c: Component, i: usize) -> usize {
 
 /// Picture n starts as its first bytes times 8 to the power n.
 fn set(c: Component, bytes: &[u8], samples: &mut [u64]) {
-    let mut i: usize = 0;
-    while i < bytes.len() {
-        let b = wide(bytes[i]);
-        store(samples, i, scaled(b, picture_of(c, i)));
-        i += 1;
+    for (i, b) in bytes.iter().enumerate() {
+        store(samples, i, scaled(wide(*b), picture_of(c, i)));
     }
 }
 
@@ -780,10 +771,8 @@ fn samples_of(c: Component) -> usize {
 /// One component of an accepted step. No step reads the picture that it writes.
 fn write_component(c: Component, s: Step, samples: &mut [u64]) {
     let n = s.target;
-    let mut left = samples_of(c);
-    while left > 0 {
-        left -= 1;
-        let p = place_of(c, s, left);
+    for k in 0..samples_of(c) {
+        let p = place_of(c, s, k);
         let v = predicted(c, samples, s, p.x, p.y);
         store(samples, index(c, n, p.x, p.y), v);
     }
@@ -826,12 +815,12 @@ struct Quotient {
     rest: u64,
 }
 
-fn say(text: &[u8]) {
-    io::write_all(STDOUT_FILENO, text);
+fn say(rt: &impl Print, text: &str) -> io::Result<()> {
+    print!(rt; "{text}")
 }
 
-fn number(n: u64) {
-    io::print_decimal(STDOUT_FILENO, n);
+fn number(rt: &impl Print, n: u64) -> io::Result<()> {
+    print!(rt; "{n}")
 }
 
 // ---- counts
@@ -874,23 +863,23 @@ fn counted(c: Counts, answered: u64, table: u64) -> Counts {
     }
 }
 
-fn write_counts(steps: u64, c: Counts) {
-    number(steps);
-    say(b" steps: ");
-    number(c.accepted);
-    say(b" accepted; refused ");
-    number(c.far);
-    say(b" with 13, ");
-    number(c.no_forward);
-    say(b" with 16, ");
-    number(c.no_backward);
-    say(b" with 17, ");
-    number(c.outside);
-    say(b" with 20, ");
-    number(c.others);
-    say(b" otherwise; ");
-    number(c.disagree);
-    say(b" unlike the table\n");
+fn write_counts(rt: &impl Print, steps: u64, c: Counts) -> io::Result<()> {
+    number(rt, steps)?;
+    say(rt, " steps: ")?;
+    number(rt, c.accepted)?;
+    say(rt, " accepted; refused ")?;
+    number(rt, c.far)?;
+    say(rt, " with 13, ")?;
+    number(rt, c.no_forward)?;
+    say(rt, " with 16, ")?;
+    number(rt, c.no_backward)?;
+    say(rt, " with 17, ")?;
+    number(rt, c.outside)?;
+    say(rt, " with 20, ")?;
+    number(rt, c.others)?;
+    say(rt, " otherwise; ")?;
+    number(rt, c.disagree)?;
+    say(rt, " unlike the table\n")
 }
 
 // ---- distances
@@ -922,10 +911,8 @@ fn compared(c: Component, n: usize, bytes: &[u8], exact: &[u64], d: Distances) -
     let from = planes(c, n);
     let mut above = d.above;
     let mut below = d.below;
-    let mut left = planes(c, 1);
-    while left > 0 {
-        left -= 1;
-        let i = std::num::wrapping_add_usize(from, left);
+    for k in 0..planes(c, 1) {
+        let i = std::num::wrapping_add_usize(from, k);
         let rounded = scaled(byte_at(bytes, i), n);
         let unrounded = sample(exact, i);
         above = larger(above, over(rounded, unrounded));
@@ -986,103 +973,119 @@ fn millionths(d: u64, n: usize) -> u64 {
 }
 
 /// In three places.
-fn whole(n: u64) {
+fn whole(rt: &impl Print, n: u64) -> io::Result<()> {
     if n < 100 {
-        say(b" ");
+        say(rt, " ")?;
     }
     if n < 10 {
-        say(b" ");
+        say(rt, " ")?;
     }
-    number(n);
+    number(rt, n)
 }
 
-fn digit(n: u64) {
-    number(n % 10);
+fn digit(rt: &impl Print, n: u64) -> io::Result<()> {
+    number(rt, n % 10)
 }
 
-fn write_millionths(m: u64) {
-    whole(m / 1000000);
-    say(b".");
-    digit(m / 100000);
-    digit(m / 10000);
-    digit(m / 1000);
-    digit(m / 100);
-    digit(m / 10);
-    digit(m);
+fn write_millionths(rt: &impl Print, m: u64) -> io::Result<()> {
+    whole(rt, m / 1000000)?;
+    say(rt, ".")?;
+    digit(rt, m / 100000)?;
+    digit(rt, m / 10000)?;
+    digit(rt, m / 1000)?;
+    digit(rt, m / 100)?;
+    digit(rt, m / 10)?;
+    digit(rt, m)
 }
 
-fn write_quarters(q: u64) {
-    whole(q / 4);
-    say(b".");
+fn write_quarters(rt: &impl Print, q: u64) -> io::Result<()> {
+    whole(rt, q / 4)?;
+    say(rt, ".")?;
     let hundredths = q % 4 * 25;
-    digit(hundredths / 10);
-    digit(hundredths);
+    digit(rt, hundredths / 10)?;
+    digit(rt, hundredths)
 }
 
 /// A distance in picture n against its figure, in quarters of a grey step: exactly, as multiples of a quarter unit. No distance reaches 2 to the
 /// power 62.
-fn write_distance(d: u64, n: usize, quarters: u64) {
+fn write_distance(rt: &impl Print, d: u64, n: usize, quarters: u64) -> io::Result<()> {
     let is = d % 4611686018427387904 * 4;
     let figure = scaled(quarters, n);
-    say(b"   ");
-    write_millionths(millionths(d, n));
+    say(rt, "   ")?;
+    write_millionths(rt, millionths(d, n))?;
     if is < figure {
-        say(b" <");
+        say(rt, " <")?;
     }
     if is == figure {
-        say(b" =");
+        say(rt, " =")?;
     }
     if is > figure {
-        say(b" >");
+        say(rt, " >")?;
     }
-    write_quarters(quarters);
+    write_quarters(rt, quarters)
 }
 
 // ---- the table of a list
 
-fn write_head() {
+fn write_head(rt: &impl Print) -> io::Result<()> {
     say(
-        b"How far rounding takes samples, in grey steps: of each picture the largest distance above and the largest below\n",
-    );
+        rt,
+        "How far rounding takes samples, in grey steps: of each picture the largest distance above and the largest below\n",
+    )?;
     say(
-        b"the unrounded samples, over all three planes, and the figure of drift_bound. Distances are rounded up to a\n",
-    );
+        rt,
+        "the unrounded samples, over all three planes, and the figure of drift_bound. Distances are rounded up to a\n",
+    )?;
     say(
-        b"millionth; the signs between them and the figure compare the exact numbers. Pictures of 48 x 48, 4:2:0.\n",
-    );
-    say(b"64 bits end at picture 18; the theorem has no end.\n");
+        rt,
+        "millionth; the signs between them and the figure compare the exact numbers. Pictures of 48 x 48, 4:2:0.\n",
+    )?;
+    say(rt, "64 bits end at picture 18; the theorem has no end.\n")
 }
 
-fn write_brighter() {
+fn write_brighter(rt: &impl Print) -> io::Result<()> {
     say(
-        b"\nlist 1, brighter: each macroblock from the picture before, forward by (0, 1) and backward by (0, -1)\n",
-    );
-    say(b"sample (x, y) of picture 0's luminance is y\n");
+        rt,
+        "\nlist 1, brighter: each macroblock from the picture before, forward by (0, 1) and backward by (0, -1)\n",
+    )?;
+    say(rt, "sample (x, y) of picture 0's luminance is y\n")
 }
 
-fn write_too_bright() {
+fn write_too_bright(rt: &impl Print) -> io::Result<()> {
     say(
-        b"sample (24, 24) of picture 18 made one grey step brighter by hand, which is too bright:\n",
-    );
+        rt,
+        "sample (24, 24) of picture 18 made one grey step brighter by hand, which is too bright:\n",
+    )
 }
 
-fn write_unchanged() {
-    say(b"\nlist 2, unchanged: each macroblock from the picture before, forward by (1, 1)\n");
+fn write_unchanged(rt: &impl Print) -> io::Result<()> {
     say(
-        b"sample (x, y) of picture 0's luminance is d (d - 1) / 2 for d = x - y, or 255 where that is more\n",
-    );
+        rt,
+        "\nlist 2, unchanged: each macroblock from the picture before, forward by (1, 1)\n",
+    )?;
+    say(
+        rt,
+        "sample (x, y) of picture 0's luminance is d (d - 1) / 2 for d = x - y, or 255 where that is more\n",
+    )
 }
 
-fn write_too_dark() {
-    say(b"sample (5, 0) of picture 18 made one grey step darker by hand, which is too dark:\n");
+fn write_too_dark(rt: &impl Print) -> io::Result<()> {
+    say(
+        rt,
+        "sample (5, 0) of picture 18 made one grey step darker by hand, which is too dark:\n",
+    )
 }
 
-fn write_drawn() {
-    say(b"\nlist 3, drawn: drawn steps on drawn pictures, in any order, some refused\n");
+fn write_drawn(rt: &impl Print) -> io::Result<()> {
+    say(
+        rt,
+        "\nlist 3, drawn: drawn steps on drawn pictures, in any order, some refused\n",
+    )
 }
 
 /// The row of picture n.
 fn write_picture(
+    rt: &impl Print,
     n: u32,
     y: &[u8],
     cb: &[u8],
@@ -1090,31 +1093,31 @@ fn write_picture(
     exact_y: &[u64],
     exact_cb: &[u64],
     exact_cr: &[u64],
-) {
+) -> io::Result<()> {
     let k = n as usize;
     let d = largest(k, y, cb, cr, exact_y, exact_cb, exact_cr);
     let figure = drift_bound(n);
-    say(b"    ");
-    whole(n as u64);
-    write_distance(d.above, k, figure.above);
-    write_distance(d.below, k, figure.below);
-    say(b"\n");
+    say(rt, "    ")?;
+    whole(rt, n as u64)?;
+    write_distance(rt, d.above, k, figure.above)?;
+    write_distance(rt, d.below, k, figure.below)?;
+    say(rt, "\n")
 }
 
 fn write_pictures(
+    rt: &impl Print,
     y: &[u8],
     cb: &[u8],
     cr: &[u8],
     exact_y: &[u64],
     exact_cb: &[u64],
     exact_cr: &[u64],
-) {
-    say(b"picture        above  figure        below  figure\n");
-    let mut n: u32 = 0;
-    while n < 19 {
-        write_picture(n, y, cb, cr, exact_y, exact_cb, exact_cr);
-        n += 1;
+) -> io::Result<()> {
+    say(rt, "picture        above  figure        below  figure\n")?;
+    for n in 0..19 {
+        write_picture(rt, n, y, cb, cr, exact_y, exact_cb, exact_cr)?;
     }
+    Ok(())
 }
 
 // ---- The lists, run and printed.
@@ -1153,12 +1156,10 @@ fn take_steps(
 ) -> Counts {
     let mut d = first_draws();
     let mut counts = none();
-    let mut left = count;
-    while left > 0 {
+    for _ in 0..count {
         let s = step_of(list, d);
         counts = take_step(s, y, cb, cr, exact_y, exact_cb, exact_cr, counts);
         d = next_draws(d);
-        left -= 1;
     }
     counts
 }
@@ -1205,6 +1206,7 @@ fn start_and_take(
 
 /// Takes the steps of a list, and reports.
 fn run(
+    rt: &impl Print,
     list: Steps,
     count: u64,
     y: &mut [u8],
@@ -1213,14 +1215,15 @@ fn run(
     exact_y: &mut [u64],
     exact_cb: &mut [u64],
     exact_cr: &mut [u64],
-) {
+) -> io::Result<()> {
     let counts = start_and_take(list, count, y, cb, cr, exact_y, exact_cb, exact_cr);
-    write_counts(count, counts);
-    write_pictures(y, cb, cr, exact_y, exact_cb, exact_cr);
+    write_counts(rt, count, counts)?;
+    write_pictures(rt, y, cb, cr, exact_y, exact_cb, exact_cr)
 }
 
 /// Changes a luminance sample of picture 18 by hand, where it is as far off as the figure allows, so that the comparison is seen to fail.
 fn spoil(
+    rt: &impl Print,
     x: usize,
     row: usize,
     by: u8,
@@ -1230,22 +1233,24 @@ fn spoil(
     exact_y: &[u64],
     exact_cb: &[u64],
     exact_cr: &[u64],
-) {
+) -> io::Result<()> {
     add(y, 18, x, row, by);
-    write_picture(18, y, cb, cr, exact_y, exact_cb, exact_cr);
+    write_picture(rt, 18, y, cb, cr, exact_y, exact_cb, exact_cr)
 }
 
 /// Attains the figure above: for each picture a half is rounded up in both directions, and again in the mean of both.
 fn run_brighter(
+    rt: &impl Print,
     y: &mut [u8],
     cb: &mut [u8],
     cr: &mut [u8],
     exact_y: &mut [u64],
     exact_cb: &mut [u64],
     exact_cr: &mut [u64],
-) {
-    write_brighter();
+) -> io::Result<()> {
+    write_brighter(rt)?;
     run(
+        rt,
         Steps::Brighter,
         EVERY_CELL,
         y,
@@ -1254,22 +1259,24 @@ fn run_brighter(
         exact_y,
         exact_cb,
         exact_cr,
-    );
-    write_too_bright();
-    spoil(24, 24, 1, y, cb, cr, exact_y, exact_cb, exact_cr);
+    )?;
+    write_too_bright(rt)?;
+    spoil(rt, 24, 24, 1, y, cb, cr, exact_y, exact_cb, exact_cr)
 }
 
 /// Attains the figure below: for each picture the mean of four samples loses a quarter.
 fn run_unchanged(
+    rt: &impl Print,
     y: &mut [u8],
     cb: &mut [u8],
     cr: &mut [u8],
     exact_y: &mut [u64],
     exact_cb: &mut [u64],
     exact_cr: &mut [u64],
-) {
-    write_unchanged();
+) -> io::Result<()> {
+    write_unchanged(rt)?;
     run(
+        rt,
         Steps::Unchanged,
         EVERY_CELL,
         y,
@@ -1278,63 +1285,77 @@ fn run_unchanged(
         exact_y,
         exact_cb,
         exact_cr,
-    );
-    write_too_dark();
-    spoil(5, 0, 255, y, cb, cr, exact_y, exact_cb, exact_cr);
+    )?;
+    write_too_dark(rt)?;
+    spoil(rt, 5, 0, 255, y, cb, cr, exact_y, exact_cb, exact_cr)
 }
 
 fn run_drawn(
+    rt: &impl Print,
     y: &mut [u8],
     cb: &mut [u8],
     cr: &mut [u8],
     exact_y: &mut [u64],
     exact_cb: &mut [u64],
     exact_cr: &mut [u64],
-) {
-    write_drawn();
-    run(Steps::Drawn, DRAWN, y, cb, cr, exact_y, exact_cb, exact_cr);
+) -> io::Result<()> {
+    write_drawn(rt)?;
+    run(
+        rt,
+        Steps::Drawn,
+        DRAWN,
+        y,
+        cb,
+        cr,
+        exact_y,
+        exact_cb,
+        exact_cr,
+    )
 }
 
 /// The two lists that attain the figure.
 fn run_two(
+    rt: &impl Print,
     y: &mut [u8],
     cb: &mut [u8],
     cr: &mut [u8],
     exact_y: &mut [u64],
     exact_cb: &mut [u64],
     exact_cr: &mut [u64],
-) {
-    run_brighter(y, cb, cr, exact_y, exact_cb, exact_cr);
-    run_unchanged(y, cb, cr, exact_y, exact_cb, exact_cr);
+) -> io::Result<()> {
+    run_brighter(rt, y, cb, cr, exact_y, exact_cb, exact_cr)?;
+    run_unchanged(rt, y, cb, cr, exact_y, exact_cb, exact_cr)
 }
 
 fn run_lists(
+    rt: &impl Print,
     y: &mut [u8],
     cb: &mut [u8],
     cr: &mut [u8],
     exact_y: &mut [u64],
     exact_cb: &mut [u64],
     exact_cr: &mut [u64],
-) {
-    write_head();
-    run_two(y, cb, cr, exact_y, exact_cb, exact_cr);
-    run_drawn(y, cb, cr, exact_y, exact_cb, exact_cr);
+) -> io::Result<()> {
+    write_head(rt)?;
+    run_two(rt, y, cb, cr, exact_y, exact_cb, exact_cr)?;
+    run_drawn(rt, y, cb, cr, exact_y, exact_cb, exact_cr)
 }
 
 /// Lends the arrays as slices: the prover takes an array's length from its type here, and in `main` would have to count it.
 fn lend(
+    rt: &impl Print,
     y: &mut [u8; 43776],
     cb: &mut [u8; 10944],
     cr: &mut [u8; 10944],
     exact_y: &mut [u64; 43776],
     exact_cb: &mut [u64; 10944],
     exact_cr: &mut [u64; 10944],
-) {
-    run_lists(y, cb, cr, exact_y, exact_cb, exact_cr);
+) -> io::Result<()> {
+    run_lists(rt, y, cb, cr, exact_y, exact_cb, exact_cr)
 }
 
 /// The samples of 19 pictures, by component.
-fn main() {
+fn main(rt: HostRuntime) -> io::Result<()> {
     let mut y = [0u8; 43776];
     let mut cb = [0u8; 10944];
     let mut cr = [0u8; 10944];
@@ -1342,11 +1363,12 @@ fn main() {
     let mut exact_cb = [0u64; 10944];
     let mut exact_cr = [0u64; 10944];
     lend(
+        &rt,
         &mut y,
         &mut cb,
         &mut cr,
         &mut exact_y,
         &mut exact_cb,
         &mut exact_cr,
-    );
+    )
 }

@@ -1,0 +1,17 @@
+-- The tests of one number are one.
+-- Assumes nothing.
+use Rattle.std.proofs.Common.{◌∙◌}
+use mir.Facts.{to_z-of_z}
+use Rattle.forming_predictions.proofs.Refusals.{sample-cause}
+use Rattle.forming_predictions.proofs.sample_refusal.Goals as goal
+
+pub returns : goal.returns
+returns c =
+    let a = c.args in
+    (rw (
+      c.plane_fits.ensures,
+      rw (to_z-of_z c.ranges.x) at c.position_fits.ensures,
+      rw (to_z-of_z c.ranges.y) at c.position_fits-2.ensures,
+    )
+    at c.domain_refusal.ensures)
+    ∙ sample-cause a.plane.width a.plane.height a.count a.x a.y

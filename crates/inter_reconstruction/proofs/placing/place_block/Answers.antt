@@ -1,0 +1,26 @@
+-- The invariant before the first turn, and after a turn that copies a row: the parts of the block and of the plane have one length.
+-- Assumes nothing.
+use Rattle.std.proofs.Common.{◌≡◌, sym, ◌∙◌, ◌+◌, ◌-◌, ◌*◌, ◌≤◌, length, take, drop, arith, eq-eqb}
+use Rattle.laws.proofs.Parts.{part_length}
+use Rattle.inter_reconstruction.proofs.Stored.{row_inside, row-source, placed-none, placed_row}
+use Rattle.inter_reconstruction.proofs.placing.place_block.Goals as goal
+
+pub loop-r-init : goal.loop-r-init
+loop-r-init c = record { within = omega arith; rows = placed-none _ _ _ _ _ _ }
+
+pub loop-r-preserved : goal.loop-r-preserved
+loop-r-preserved c =
+    let a = c.args in
+    let r = c.loop-r.r in
+    let t = c.loop-r-test.true in
+    let i = r * a.block_width in
+    let o = (a.y + r) * a.width + a.x in
+    let source : i + a.block_width ≤ length a.block.now = row-source c.requires r t in
+    let inside : o + a.block_width ≤ length c.loop-r.plane = omega (arith, row_inside c.requires r t, c.loop-r.invariant.rows.long) in
+    let same : length (take (o + a.block_width - o) (drop o c.loop-r.plane)) ≡ length (take (i + a.block_width - i) (drop i a.block.now)) =
+    part_length c.loop-r.plane o (o + a.block_width) inside
+    ∙ sym (part_length a.block.now i (i + a.block_width) source ∙ omega arith) in
+    record {
+      within = omega arith;
+      rows = placed_row c.loop-r.invariant.rows c.requires t (rw (eq-eqb _ _ same) at c.copy_samples.ensures);
+    }
