@@ -1,7 +1,7 @@
 -- ISO/IEC 13818-2, 7.6.3.5, 7.6.3.7 and 7.6.5: which directions a macroblock is predicted from, and by which vectors.
 -- The scope (docs/SCOPE.md): without motion in either direction, zero vectors from the forward reference, each field from its own parity,
--- in every picture.
-use Rattle.std.specs.Prelude.{Bool, ℕ, zero, suc, pos}
+-- in every picture; with motion in both directions and one reference, that one alone, by its own vectors.
+use Rattle.std.specs.Prelude.{Bool, ℕ, zero, suc, pos, true, false}
 use Rattle.forming_predictions.specs.declared.FieldParity.TheVariants.{Top, Bottom}
 use Rattle.pmv.specs.Chroma.{chromaHorizontal, chromaVertical}
 use Rattle.pmv.specs.declared.kinds.ChromaFormat.{ChromaFormat}
@@ -43,13 +43,26 @@ abbrev pub fieldDirection : FieldDirection → OptionDirectionMotion
 fieldDirection FieldDirection.Absent = None
 fieldDirection (FieldDirection.Present p) = Some (Field p)
 
--- by the motion of each direction and by whether the forward and the backward reference are there, which changes nothing: a reference that
--- is used and absent is refused. Without motion in either direction (7.6.3.5) it is the forward one, by zero vectors, `still`.
+-- the directions that have motion. Without motion in either (7.6.3.5) it is the forward one, by zero vectors, `still`.
+abbrev pub wanted : DirectionMotion → OptionDirectionMotion → OptionDirectionMotion → Uses
+wanted still None None = Forward still
+wanted still (Some d) None = Forward d
+wanted still None (Some e) = Backward e
+wanted still (Some d) (Some e) = Both d e
+
+-- by whether the forward and the backward reference are there: of two directions the one whose reference is there, where the other's is
+-- absent. A direction that is wanted alone stays wanted, and so do two whose references are both absent: these are refused.
+abbrev pub remaining : Uses → Bool → Bool → Uses
+remaining (Forward d) forward backward = Forward d
+remaining (Backward e) forward backward = Backward e
+remaining (Both d e) true true = Both d e
+remaining (Both d e) true false = Forward d
+remaining (Both d e) false true = Backward e
+remaining (Both d e) false false = Both d e
+
+-- the directions that are used, by the motion of each and the presence of the references
 abbrev pub uses : DirectionMotion → OptionDirectionMotion → OptionDirectionMotion → Bool → Bool → Uses
-uses still None None forward backward = Forward still
-uses still (Some d) None forward backward = Forward d
-uses still None (Some e) forward backward = Backward e
-uses still (Some d) (Some e) forward backward = Both d e
+uses still d e = remaining (wanted still d e)
 
 abbrev pub frameUses : FrameMotion → Bool → Bool → Uses
 frameUses m = uses (Frame zeroVector) (frameDirection m.forward) (frameDirection m.backward)

@@ -66,6 +66,8 @@ planesRefusal (Present b) n = cause (not (planesFit b n)) outsideDomain
 abbrev pub oneRefusal : ℕ → FrameGeometry → ReferenceFrame → (ColourComponent → ℕ) → ℕ
 oneRefusal number dest r n = or_else (missing number r) (or_else (geometryRefusal dest r) (planesRefusal r n))
 
+-- Where both directions are used, both references are there or both absent (Motion.antt, `remaining`): 17 is backward motion's alone
+-- (proofs/Directions.antt, `backward-only`).
 abbrev pub referencesRefusal : FrameGeometry → ReferenceFrame → (ColourComponent → ℕ) → ReferenceFrame → (ColourComponent → ℕ) → Uses → ℕ
 referencesRefusal dest f n b k (Forward d) = oneRefusal forwardMissing dest f n
 referencesRefusal dest f n b k (Backward e) = oneRefusal backwardMissing dest b k

@@ -12,3 +12,4 @@ pub mod macroblock;
 mod samples;
 /// Placing a macroblock in a picture.
 pub mod placing;
+

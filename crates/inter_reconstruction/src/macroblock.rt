@@ -1,5 +1,5 @@
 //! ISO/IEC 13818-2, 7.6.4 to 7.6.7: the calls that predict a macroblock, with all that they refuse.
-ghost use Rattle.std.specs.Prelude.{◌≡◌, ◌++◌, ◌+◌, ◌*◌, ◌%◌, ◌≤◌, ◌<◌, length};
+ghost use Rattle.std.specs.Prelude.{◌≡◌, ◌++◌, ◌+◌, ◌*◌, ◌%◌, ◌≤◌, ◌<◌, length, Some};
 ghost use Rattle.laws.specs.Tabulate.{tabulate};
 ghost use Rattle.combine_predictions.specs.Refusals.{unlessRefused};
 ghost use Rattle.forming_predictions.specs.Means.{rounded};
@@ -10,14 +10,14 @@ ghost use Rattle.inter_reconstruction.specs.Motion.{frameUses, fieldUses, fieldV
 ghost use Rattle.inter_reconstruction.specs.Frames.{readPlane, samplesOf, readFrame, lengthsOf, isPresent, readReference};
 ghost use Rattle.inter_reconstruction.specs.Macroblock.{fieldSample, directionSample, usedSample, rectangle, predicted};
 ghost use Rattle.inter_reconstruction.specs.Refusals.{sameGeometry, planesFit, oneRefusal, referencesRefusal, predictionRefusal};
-ghost use Rattle.inter_reconstruction.specs.Answers.{predictionAnswer, predictionNumber};
+ghost use Rattle.inter_reconstruction.specs.Answers.{accepted, directionsOf, predictionAnswer, predictionDirections, predictionNumber};
 ghost use Rattle.inter_reconstruction.specs.inner.Blocks.{PlaneFits, BlockAt, FieldRows, HalvesAt, fieldHalves, interleavedCell, forwardBytes};
 ghost use Rattle.inter_reconstruction.specs.inner.Planes.{FrameFits, CellFits, BlocksFit, directedPart, directed, chromaBlocks, frameRefusal, framesRefusal, missingIn, destinationRefusal};
 
 use crate::frames::{FrameBuffer, FrameGeometry, ReferenceFrame, chroma_mb_extent};
 use crate::motion::{
     DirectionMotion, FieldBasedMotion, FieldVector, FieldVectorPair, FrameMotion, MotionVectorPel,
-    Uses,
+    UsedDirections, Uses,
 };
 use crate::samples::copy_samples;
 use combine_predictions::{
@@ -33,9 +33,9 @@ use pmv::kinds::ChromaFormat;
 pub const CELL_TOO_FAR: u8 = 13;
 /// Refusal: a reference's width, height or format is not the destination's.
 pub const OTHER_GEOMETRY: u8 = 15;
-/// Refusal: the forward reference is used, and absent.
+/// Refusal: the forward reference is used, and absent; of two directions, both references are.
 pub const FORWARD_MISSING: u8 = 16;
-/// Refusal: the backward reference is used, and absent.
+/// Refusal: the backward reference is used alone, and absent.
 pub const BACKWARD_MISSING: u8 = 17;
 /// No refusal: the references are there and right, and the macroblock is written.
 const PREDICTED: u8 = 0;
@@ -43,10 +43,16 @@ const PREDICTED: u8 = 0;
 /// The last column and the last row of macroblocks that are taken.
 pub const LAST_CELL: usize = 1023;
 
+/// What an accepted call tells of its prediction.
+#[derive(Clone, Copy)]
+pub struct Accepted {
+    pub directions: UsedDirections,
+}
+
 /// The macroblock was written, or the number of the refusal, which writes nothing.
 #[derive(Clone, Copy)]
 pub enum MacroblockPrediction {
-    Done,
+    Done(Accepted),
     Refused(u8),
 }
 
@@ -520,11 +526,11 @@ fn predict_from_two(
 
 // ---- the calls, with all that they refuse
 
-fn answer_of(number: u8) -> MacroblockPrediction
-    ensures { result ≡ predictionAnswer number }
+fn answer_of(number: u8, told: Accepted) -> MacroblockPrediction
+    ensures { result ≡ predictionAnswer number told }
 {
     if number == 0 {
-        return MacroblockPrediction::Done;
+        return MacroblockPrediction::Done(told);
     }
     MacroblockPrediction::Refused(number)
 }
@@ -757,54 +763,85 @@ pub fn predict_frame_macroblock_planes(
     motion: FrameMotion,
     out: &mut [u8],
 ) -> MacroblockPrediction
-    ensures answer { result ≡ predictionAnswer (predictionRefusal dest (length out.old) forward (lengthsOf (samplesOf forward_y.now forward_cb.now forward_cr.now)) backward (lengthsOf (samplesOf backward_y.now backward_cb.now backward_cr.now)) (frameUses motion (isPresent forward) (isPresent backward)) mb_col mb_row) }
-    ensures buffer { out.new ≡ unlessRefused (predictionNumber result) (predicted rounded dest.chroma_format (readReference forward (samplesOf forward_y.now forward_cb.now forward_cr.now)) (readReference backward (samplesOf backward_y.now backward_cb.now backward_cr.now)) (frameUses motion (isPresent forward) (isPresent backward)) mb_col mb_row) out.old }
+    ensures answer {
+        let used = frameUses motion (isPresent forward) (isPresent backward) in
+        let forward_lengths = lengthsOf (samplesOf forward_y.now forward_cb.now forward_cr.now) in
+        let backward_lengths = lengthsOf (samplesOf backward_y.now backward_cb.now backward_cr.now) in
+        let refusal = predictionRefusal dest (length out.old) forward forward_lengths backward backward_lengths used mb_col mb_row in
+        result ≡ predictionAnswer refusal (accepted used)
+    }
+    ensures directions {
+        let used = frameUses motion (isPresent forward) (isPresent backward) in
+        predictionNumber result ≡ 0 → predictionDirections result ≡ Some (directionsOf used)
+    }
+    ensures buffer {
+        let used = frameUses motion (isPresent forward) (isPresent backward) in
+        let forward_read = readReference forward (samplesOf forward_y.now forward_cb.now forward_cr.now) in
+        let backward_read = readReference backward (samplesOf backward_y.now backward_cb.now backward_cr.now) in
+        let prediction = predicted rounded dest.chroma_format forward_read backward_read used mb_col mb_row in
+        out.new ≡ unlessRefused (predictionNumber result) prediction out.old
+    }
 {
     let refusal = destination_refusal(dest, mb_col, mb_row, out.len());
     if refusal != 0 {
         return MacroblockPrediction::Refused(refusal);
     }
     match motion.uses(forward.is_present(), backward.is_present()) {
-        Uses::Forward(d) => answer_of(predict_alone(
-            dest,
-            PredictionDirection::Forward,
-            d,
-            forward,
-            forward_y,
-            forward_cb,
-            forward_cr,
-            mb_col,
-            mb_row,
-            out,
-        )),
-        Uses::Backward(e) => answer_of(predict_alone(
-            dest,
-            PredictionDirection::Backward,
-            e,
-            backward,
-            backward_y,
-            backward_cb,
-            backward_cr,
-            mb_col,
-            mb_row,
-            out,
-        )),
-        Uses::Both(d, e) => answer_of(predict_both(
-            dest,
-            d,
-            e,
-            forward,
-            forward_y,
-            forward_cb,
-            forward_cr,
-            backward,
-            backward_y,
-            backward_cb,
-            backward_cr,
-            mb_col,
-            mb_row,
-            out,
-        )),
+        Uses::Forward(d) => answer_of(
+            predict_alone(
+                dest,
+                PredictionDirection::Forward,
+                d,
+                forward,
+                forward_y,
+                forward_cb,
+                forward_cr,
+                mb_col,
+                mb_row,
+                out,
+            ),
+            Accepted {
+                directions: UsedDirections::Forward,
+            },
+        ),
+        Uses::Backward(e) => answer_of(
+            predict_alone(
+                dest,
+                PredictionDirection::Backward,
+                e,
+                backward,
+                backward_y,
+                backward_cb,
+                backward_cr,
+                mb_col,
+                mb_row,
+                out,
+            ),
+            Accepted {
+                directions: UsedDirections::Backward,
+            },
+        ),
+        Uses::Both(d, e) => answer_of(
+            predict_both(
+                dest,
+                d,
+                e,
+                forward,
+                forward_y,
+                forward_cb,
+                forward_cr,
+                backward,
+                backward_y,
+                backward_cb,
+                backward_cr,
+                mb_col,
+                mb_row,
+                out,
+            ),
+            Accepted {
+                directions: UsedDirections::Both,
+            },
+        ),
     }
 }
 
@@ -824,53 +861,84 @@ pub fn predict_field_based_macroblock_planes(
     motion: FieldBasedMotion,
     out: &mut [u8],
 ) -> MacroblockPrediction
-    ensures answer { result ≡ predictionAnswer (predictionRefusal dest (length out.old) forward (lengthsOf (samplesOf forward_y.now forward_cb.now forward_cr.now)) backward (lengthsOf (samplesOf backward_y.now backward_cb.now backward_cr.now)) (fieldUses motion (isPresent forward) (isPresent backward)) mb_col mb_row) }
-    ensures buffer { out.new ≡ unlessRefused (predictionNumber result) (predicted rounded dest.chroma_format (readReference forward (samplesOf forward_y.now forward_cb.now forward_cr.now)) (readReference backward (samplesOf backward_y.now backward_cb.now backward_cr.now)) (fieldUses motion (isPresent forward) (isPresent backward)) mb_col mb_row) out.old }
+    ensures answer {
+        let used = fieldUses motion (isPresent forward) (isPresent backward) in
+        let forward_lengths = lengthsOf (samplesOf forward_y.now forward_cb.now forward_cr.now) in
+        let backward_lengths = lengthsOf (samplesOf backward_y.now backward_cb.now backward_cr.now) in
+        let refusal = predictionRefusal dest (length out.old) forward forward_lengths backward backward_lengths used mb_col mb_row in
+        result ≡ predictionAnswer refusal (accepted used)
+    }
+    ensures directions {
+        let used = fieldUses motion (isPresent forward) (isPresent backward) in
+        predictionNumber result ≡ 0 → predictionDirections result ≡ Some (directionsOf used)
+    }
+    ensures buffer {
+        let used = fieldUses motion (isPresent forward) (isPresent backward) in
+        let forward_read = readReference forward (samplesOf forward_y.now forward_cb.now forward_cr.now) in
+        let backward_read = readReference backward (samplesOf backward_y.now backward_cb.now backward_cr.now) in
+        let prediction = predicted rounded dest.chroma_format forward_read backward_read used mb_col mb_row in
+        out.new ≡ unlessRefused (predictionNumber result) prediction out.old
+    }
 {
     let refusal = destination_refusal(dest, mb_col, mb_row, out.len());
     if refusal != 0 {
         return MacroblockPrediction::Refused(refusal);
     }
     match motion.uses(forward.is_present(), backward.is_present()) {
-        Uses::Forward(d) => answer_of(predict_alone(
-            dest,
-            PredictionDirection::Forward,
-            d,
-            forward,
-            forward_y,
-            forward_cb,
-            forward_cr,
-            mb_col,
-            mb_row,
-            out,
-        )),
-        Uses::Backward(e) => answer_of(predict_alone(
-            dest,
-            PredictionDirection::Backward,
-            e,
-            backward,
-            backward_y,
-            backward_cb,
-            backward_cr,
-            mb_col,
-            mb_row,
-            out,
-        )),
-        Uses::Both(d, e) => answer_of(predict_both(
-            dest,
-            d,
-            e,
-            forward,
-            forward_y,
-            forward_cb,
-            forward_cr,
-            backward,
-            backward_y,
-            backward_cb,
-            backward_cr,
-            mb_col,
-            mb_row,
-            out,
-        )),
+        Uses::Forward(d) => answer_of(
+            predict_alone(
+                dest,
+                PredictionDirection::Forward,
+                d,
+                forward,
+                forward_y,
+                forward_cb,
+                forward_cr,
+                mb_col,
+                mb_row,
+                out,
+            ),
+            Accepted {
+                directions: UsedDirections::Forward,
+            },
+        ),
+        Uses::Backward(e) => answer_of(
+            predict_alone(
+                dest,
+                PredictionDirection::Backward,
+                e,
+                backward,
+                backward_y,
+                backward_cb,
+                backward_cr,
+                mb_col,
+                mb_row,
+                out,
+            ),
+            Accepted {
+                directions: UsedDirections::Backward,
+            },
+        ),
+        Uses::Both(d, e) => answer_of(
+            predict_both(
+                dest,
+                d,
+                e,
+                forward,
+                forward_y,
+                forward_cb,
+                forward_cr,
+                backward,
+                backward_y,
+                backward_cb,
+                backward_cr,
+                mb_col,
+                mb_row,
+                out,
+            ),
+            Accepted {
+                directions: UsedDirections::Both,
+            },
+        ),
     }
 }

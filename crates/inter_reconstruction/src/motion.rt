@@ -1,8 +1,9 @@
 //! ISO/IEC 13818-2, 7.6.3.5, 7.6.4 and 7.6.5: the vectors of a macroblock, by direction.
-ghost use Rattle.std.specs.Prelude.{◌≡◌, false};
-ghost use Rattle.inter_reconstruction.specs.Motion.{zeroVector, zeroPair, frameDirection, fieldDirection, uses, frameUses, fieldUses, chromaVector, chromaField, chromaMotion};
+ghost use Rattle.std.specs.Prelude.{◌≡◌};
+ghost use Rattle.inter_reconstruction.specs.Motion.{zeroVector, zeroPair, frameDirection, fieldDirection, wanted, remaining, uses, frameUses, fieldUses, chromaVector, chromaField, chromaMotion};
 ghost use Rattle.inter_reconstruction.specs.declared.motion.DirectionMotion.TheVariants.{Frame, Field};
 ghost use Rattle.inter_reconstruction.specs.declared.motion.OptionDirectionMotion.TheVariants.{None, Some};
+ghost use Rattle.inter_reconstruction.specs.declared.motion.Uses.TheVariants.{Both};
 
 use forming_predictions::FieldParity;
 use pmv::chroma::scale_chroma;
@@ -79,6 +80,14 @@ pub enum Uses {
     Both(DirectionMotion, DirectionMotion),
 }
 
+/// The directions that a macroblock is predicted from, without their motion.
+#[derive(Clone, Copy)]
+pub enum UsedDirections {
+    Forward,
+    Backward,
+    Both,
+}
+
 fn zero_vector() -> MotionVectorPel
     ensures { result ≡ zeroVector }
 {
@@ -108,7 +117,7 @@ fn zero_pair() -> FieldVectorPair
 
 /// By the backward direction, where the forward one has no motion.
 fn frame_without_forward(backward: FrameDirection) -> Uses
-    ensures { result ≡ uses (Frame zeroVector) None (frameDirection backward) false false }
+    ensures { result ≡ wanted (Frame zeroVector) None (frameDirection backward) }
 {
     match backward {
         FrameDirection::Absent => Uses::Forward(DirectionMotion::Frame(zero_vector())),
@@ -116,22 +125,45 @@ fn frame_without_forward(backward: FrameDirection) -> Uses
     }
 }
 
+/// Both directions have motion: of one reference alone, that one's is used.
+fn frame_both(
+    d: MotionVectorPel,
+    e: MotionVectorPel,
+    forward_present: bool,
+    backward_present: bool,
+) -> Uses
+    ensures { result ≡ remaining (Both (Frame d) (Frame e)) forward_present backward_present }
+{
+    if forward_present {
+        if backward_present {
+            return Uses::Both(DirectionMotion::Frame(d), DirectionMotion::Frame(e));
+        }
+        return Uses::Forward(DirectionMotion::Frame(d));
+    }
+    if backward_present {
+        return Uses::Backward(DirectionMotion::Frame(e));
+    }
+    Uses::Both(DirectionMotion::Frame(d), DirectionMotion::Frame(e))
+}
+
 /// By the backward direction, where the forward one has motion.
-fn frame_with_forward(d: MotionVectorPel, backward: FrameDirection) -> Uses
-    ensures { result ≡ uses (Frame zeroVector) (Some (Frame d)) (frameDirection backward) false false }
+fn frame_with_forward(
+    d: MotionVectorPel,
+    backward: FrameDirection,
+    forward_present: bool,
+    backward_present: bool,
+) -> Uses
+    ensures { result ≡ uses (Frame zeroVector) (Some (Frame d)) (frameDirection backward) forward_present backward_present }
 {
     match backward {
         FrameDirection::Absent => Uses::Forward(DirectionMotion::Frame(d)),
-        FrameDirection::Present(e) => Uses::Both(
-            DirectionMotion::Frame(d),
-            DirectionMotion::Frame(e),
-        ),
+        FrameDirection::Present(e) => frame_both(d, e, forward_present, backward_present),
     }
 }
 
 impl FrameMotion {
-    /// The directions that are used, with their motion. Where neither has motion, the forward one is, with zero vectors. That a reference is
-    /// there changes nothing: one that is used and absent is refused.
+    /// The directions that are used, with their motion. Where neither has motion, the forward one is, with zero vectors. Where both have,
+    /// and one reference alone is there, that one is.
     pub fn uses(self, forward_present: bool, backward_present: bool) -> Uses
         ensures { result ≡ frameUses self forward_present backward_present }
     {
@@ -139,14 +171,19 @@ impl FrameMotion {
         let backward = self.backward;
         match forward {
             FrameDirection::Absent => frame_without_forward(backward),
-            FrameDirection::Present(d) => frame_with_forward(d, backward),
+            FrameDirection::Present(d) => frame_with_forward(
+                d,
+                backward,
+                forward_present,
+                backward_present,
+            ),
         }
     }
 }
 
 /// The same by field vectors.
 fn field_without_forward(backward: FieldDirection) -> Uses
-    ensures { result ≡ uses (Field zeroPair) None (fieldDirection backward) false false }
+    ensures { result ≡ wanted (Field zeroPair) None (fieldDirection backward) }
 {
     match backward {
         FieldDirection::Absent => Uses::Forward(DirectionMotion::Field(zero_pair())),
@@ -154,15 +191,39 @@ fn field_without_forward(backward: FieldDirection) -> Uses
     }
 }
 
-fn field_with_forward(d: FieldVectorPair, backward: FieldDirection) -> Uses
-    ensures { result ≡ uses (Field zeroPair) (Some (Field d)) (fieldDirection backward) false false }
+/// Both directions have motion: of one reference alone, that one's is used.
+fn field_both(
+    d: FieldVectorPair,
+    e: FieldVectorPair,
+    forward_present: bool,
+    backward_present: bool,
+) -> Uses
+    ensures { result ≡ remaining (Both (Field d) (Field e)) forward_present backward_present }
+{
+    if forward_present {
+        if backward_present {
+            return Uses::Both(DirectionMotion::Field(d), DirectionMotion::Field(e));
+        }
+        return Uses::Forward(DirectionMotion::Field(d));
+    }
+    if backward_present {
+        return Uses::Backward(DirectionMotion::Field(e));
+    }
+    Uses::Both(DirectionMotion::Field(d), DirectionMotion::Field(e))
+}
+
+/// By the backward direction, where the forward one has motion.
+fn field_with_forward(
+    d: FieldVectorPair,
+    backward: FieldDirection,
+    forward_present: bool,
+    backward_present: bool,
+) -> Uses
+    ensures { result ≡ uses (Field zeroPair) (Some (Field d)) (fieldDirection backward) forward_present backward_present }
 {
     match backward {
         FieldDirection::Absent => Uses::Forward(DirectionMotion::Field(d)),
-        FieldDirection::Present(e) => Uses::Both(
-            DirectionMotion::Field(d),
-            DirectionMotion::Field(e),
-        ),
+        FieldDirection::Present(e) => field_both(d, e, forward_present, backward_present),
     }
 }
 
@@ -175,7 +236,12 @@ impl FieldBasedMotion {
         let backward = self.backward;
         match forward {
             FieldDirection::Absent => field_without_forward(backward),
-            FieldDirection::Present(d) => field_with_forward(d, backward),
+            FieldDirection::Present(d) => field_with_forward(
+                d,
+                backward,
+                forward_present,
+                backward_present,
+            ),
         }
     }
 }

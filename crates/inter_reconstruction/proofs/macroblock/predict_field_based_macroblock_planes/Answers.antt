@@ -10,7 +10,7 @@ returns-in-Forward-clause-buffer c =
     forward-written a.dest.chroma_format
     (readReference a.forward (samplesOf a.forward_y.now a.forward_cb.now a.forward_cr.now))
     (readReference a.backward (samplesOf a.backward_y.now a.backward_cb.now a.backward_cr.now))
-    c.in-Forward.d a.mb_col a.mb_row _ _ _ _ _
+    c.in-Forward.d a.mb_col a.mb_row _ _ _ _ _ _
     (rw (c.is_present.ensures, c.is_present-2.ensures) at c.in-Forward.ensures)
     c.answer_of.ensures
     c.predict_alone.ensures.buffer
@@ -21,7 +21,7 @@ returns-in-Backward-clause-buffer c =
     backward-written a.dest.chroma_format
     (readReference a.forward (samplesOf a.forward_y.now a.forward_cb.now a.forward_cr.now))
     (readReference a.backward (samplesOf a.backward_y.now a.backward_cb.now a.backward_cr.now))
-    c.in-Backward.e a.mb_col a.mb_row _ _ _ _ _
+    c.in-Backward.e a.mb_col a.mb_row _ _ _ _ _ _
     (rw (c.is_present.ensures, c.is_present-2.ensures) at c.in-Backward.ensures)
     c.answer_of-in-Backward.ensures
     c.predict_alone-in-Backward.ensures.buffer
