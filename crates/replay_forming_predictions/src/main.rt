@@ -1,10 +1,12 @@
 //! Replays the forming list, which has the Rust's answers, on `forming_predictions`. The list's head says what its fields mean.
 #![tactic(auto)]
+
 use forming_predictions::{
     BlockSize, FieldParity, FieldReference, HalfPattern, Predicted, ReferencePlane, Sampled,
 };
-use libc::{STDIN_FILENO, STDOUT_FILENO};
 use lists::Next;
+use std::io;
+use std::io::Read;
 use tally::Tally;
 
 /// A case that was read: whether the port agrees with the list, the place after the case, and whether the line was well formed.
@@ -536,46 +538,58 @@ fn case(s: &[u8], kind: i64, at: usize, plane: Plane, samples: &[u8]) -> Judged 
 }
 
 /// Counts a case. It has to end its line.
-fn count(s: &[u8], t: Tally, j: Judged) -> Tally {
+fn count(rt: &impl Print, s: &[u8], t: Tally, j: Judged) -> io::Result<Tally> {
     if j.good & lists::line_ends(s, j.next) {
-        return tally::judged(t, j.agrees, j.next);
+        return tally::judge(rt, t, j.agrees, j.next);
     }
-    tally::stopped(t, false)
+    Ok(tally::stopped(t, false))
 }
 
-fn judge(s: &[u8], t: Tally, kind: i64, at: usize, plane: Plane, samples: &[u8]) -> Stepped {
-    Stepped {
-        tally: count(s, t, case(s, kind, at, plane, samples)),
+fn judge(
+    rt: &impl Print,
+    s: &[u8],
+    t: Tally,
+    kind: i64,
+    at: usize,
+    plane: Plane,
+    samples: &[u8],
+) -> io::Result<Stepped> {
+    Ok(Stepped {
+        tally: count(rt, s, t, case(s, kind, at, plane, samples))?,
         plane: plane,
-    }
+    })
 }
 
 /// A line that sets the plane counts as a case that agrees.
-fn set(s: &[u8], t: Tally, setting: Setting) -> Stepped {
+fn set(rt: &impl Print, s: &[u8], t: Tally, setting: Setting) -> io::Result<Stepped> {
     let plane = setting.plane;
-    Stepped {
-        tally: count(
-            s,
-            t,
-            Judged {
-                agrees: true,
-                next: setting.next,
-                good: setting.good,
-            },
-        ),
+    let judged = Judged {
+        agrees: true,
+        next: setting.next,
+        good: setting.good,
+    };
+    Ok(Stepped {
+        tally: count(rt, s, t, judged)?,
         plane: plane,
-    }
+    })
 }
 
-fn step_at(s: &[u8], t: Tally, at: usize, plane: Plane, samples: &mut [u8]) -> Stepped {
+fn step_at(
+    rt: &impl Print,
+    s: &[u8],
+    t: Tally,
+    at: usize,
+    plane: Plane,
+    samples: &mut [u8],
+) -> io::Result<Stepped> {
     let kind = lists::read_number(s, at);
     if kind.value == 5 {
-        return set(s, t, set_bytes(s, kind.next, samples));
+        return set(rt, s, t, set_bytes(s, kind.next, samples));
     }
     if kind.value == 6 {
-        return set(s, t, set_ramp(s, kind.next, samples));
+        return set(rt, s, t, set_ramp(s, kind.next, samples));
     }
-    judge(s, t, kind.value, kind.next, plane, samples)
+    judge(rt, s, t, kind.value, kind.next, plane, samples)
 }
 
 fn passed(t: Tally, plane: Plane) -> Stepped {
@@ -586,52 +600,49 @@ fn passed(t: Tally, plane: Plane) -> Stepped {
 }
 
 /// Goes one line further.
-fn step(s: &[u8], t: Tally, plane: Plane, samples: &mut [u8]) -> Stepped {
+fn step(
+    rt: &impl Print,
+    s: &[u8],
+    t: Tally,
+    plane: Plane,
+    samples: &mut [u8],
+) -> io::Result<Stepped> {
     match lists::find_next(s, t.at) {
-        Next::End => passed(tally::stopped(t, true), plane),
-        Next::Comment(next) => passed(tally::passed(t, next), plane),
-        Next::Case(at) => step_at(s, t, at, plane, samples),
+        Next::End => Ok(passed(tally::stopped(t, true), plane)),
+        Next::Comment(next) => Ok(passed(tally::passed(t, next), plane)),
+        Next::Case(at) => step_at(rt, s, t, at, plane, samples),
     }
 }
 
 /// Goes through the list. A line takes two bytes or more, its line feed included, so that there are turns enough.
-fn walk(s: &[u8], samples: &mut [u8]) -> Tally {
+fn walk(rt: &impl Print, s: &[u8], samples: &mut [u8]) -> io::Result<Tally> {
     let mut t = tally::start();
     let mut plane = Plane {
         width: 0,
         height: 0,
         length: 0,
     };
-    let mut turns = s.len();
-    while turns > 0 {
+    for _ in 0..s.len() {
         if !t.on {
-            return t;
+            break;
         }
-        let next = step(s, t, plane, samples);
+        let next = step(rt, s, t, plane, samples)?;
         t = next.tally;
         plane = next.plane;
-        turns -= 1;
     }
-    t
+    Ok(t)
 }
 
-/// Reads the list and goes through it. A list that fills the buffer may go on behind it.
-fn replay(buffer: &mut [u8], samples: &mut [u8]) {
-    let n = io::read_full(STDIN_FILENO, buffer);
-    if n == buffer.len() {
-        io::write_all(STDOUT_FILENO, b"the list is too long\n");
-        return;
-    }
-    tally::report(walk(&buffer[..n], samples));
+/// Reads the list and goes through it.
+fn replay(rt: &(impl Alloc + Input + Print), samples: &mut [u8]) -> io::Result<()> {
+    let mut list = Vec::new(rt.alloc());
+    rt.reader().read_to_end(&mut list)?;
+    let t = walk(rt, list.as_slice(), samples)?;
+    tally::report(rt, t)?;
+    Ok(())
 }
 
-/// Lends the arrays as slices: the prover takes an array's length from its type here, and in `main` would have to count it.
-fn lend(buffer: &mut [u8; 1048576], samples: &mut [u8; 32768]) {
-    replay(buffer, samples);
-}
-
-fn main() {
-    let mut buffer = [0u8; 1048576];
+fn main(rt: HostRuntime) -> io::Result<()> {
     let mut samples = [0u8; 32768];
-    lend(&mut buffer, &mut samples);
+    replay(&rt, &mut samples)
 }

@@ -49,14 +49,12 @@ fn store(n: &mut [i64; 40], i: usize, v: i64) {
 pub(crate) fn read_numbers(s: &[u8], at: usize, form: &[u8], n: &mut [i64; 40]) -> Read {
     let mut next = at;
     let mut good = form.len() <= 40;
-    let mut i: usize = 0;
-    while i < form.len() {
+    for (i, kind) in form.iter().enumerate() {
         let number = lists::read_number(s, next);
         let value = number.value;
         store(n, i, value);
         next = number.next;
-        good = good & number.good & is_of(form[i], value);
-        i += 1;
+        good = good & number.good & is_of(*kind, value);
     }
     Read {
         next: next,

@@ -1,9 +1,11 @@
-//! Replays the list of the four C entry points on `fozdrik`. The list's head says what its fields mean.
+//! Replays the list of the four C entry points on `entry_points`. The list's head says what its fields mean.
 #![tactic(auto)]
+
 use crate::line::Judged;
 use crate::planes::Planes;
-use libc::{STDIN_FILENO, STDOUT_FILENO};
 use lists::Next;
+use std::io;
+use std::io::Read;
 use tally::Tally;
 
 mod line;
@@ -19,16 +21,17 @@ struct Stepped {
 }
 
 /// Counts a case. It has to end its line.
-fn count(s: &[u8], t: Tally, j: Judged) -> Tally {
+fn count(rt: &impl Print, s: &[u8], t: Tally, j: Judged) -> io::Result<Tally> {
     if j.good & lists::line_ends(s, j.next) {
-        return tally::judged(t, j.agrees, j.next);
+        return tally::judge(rt, t, j.agrees, j.next);
     }
-    tally::stopped(t, false)
+    Ok(tally::stopped(t, false))
 }
 
 /// A line that sets planes counts as a case that agrees.
-fn set(s: &[u8], t: Tally, next: usize, good: bool) -> Tally {
+fn set(rt: &impl Print, s: &[u8], t: Tally, next: usize, good: bool) -> io::Result<Tally> {
     count(
+        rt,
         s,
         t,
         Judged {
@@ -41,6 +44,7 @@ fn set(s: &[u8], t: Tally, next: usize, good: bool) -> Tally {
 
 /// `REFERENCE`, three planes, `SEED`: 0 is the forward reference, 1 the backward one.
 fn setting(
+    rt: &impl Print,
     s: &[u8],
     t: Tally,
     at: usize,
@@ -48,7 +52,7 @@ fn setting(
     forward_samples: &mut [u8],
     backward: Planes,
     backward_samples: &mut [u8],
-) -> Stepped {
+) -> io::Result<Stepped> {
     let mut n = [0i64; 40];
     let read = line::read_numbers(s, at, b"ussssssssss", &mut n);
     let planes = planes::planes_of(&n);
@@ -56,28 +60,30 @@ fn setting(
     let seed = line::size_at(&n, 10) as u64;
     if reference == 0 {
         planes::draw(forward_samples, seed);
-        return Stepped {
+        return Ok(Stepped {
             tally: set(
+                rt,
                 s,
                 t,
                 read.next,
                 read.good & planes::has_room(planes, forward_samples),
-            ),
+            )?,
             forward: planes,
             backward: backward,
-        };
+        });
     }
     planes::draw(backward_samples, seed);
-    Stepped {
+    Ok(Stepped {
         tally: set(
+            rt,
             s,
             t,
             read.next,
             read.good & (reference == 1) & planes::has_room(planes, backward_samples),
-        ),
+        )?,
         forward: forward,
         backward: planes,
-    }
+    })
 }
 
 /// A line that calls, by its kind.
@@ -104,6 +110,7 @@ fn case(
 }
 
 fn step_at(
+    rt: &impl Print,
     s: &[u8],
     t: Tally,
     at: usize,
@@ -111,10 +118,11 @@ fn step_at(
     forward_samples: &mut [u8],
     backward: Planes,
     backward_samples: &mut [u8],
-) -> Stepped {
+) -> io::Result<Stepped> {
     let kind = lists::read_number(s, at);
     if kind.value == 1 {
         return setting(
+            rt,
             s,
             t,
             kind.next,
@@ -124,23 +132,20 @@ fn step_at(
             backward_samples,
         );
     }
-    Stepped {
-        tally: count(
-            s,
-            t,
-            case(
-                s,
-                kind.value,
-                kind.next,
-                forward,
-                forward_samples,
-                backward,
-                backward_samples,
-            ),
-        ),
+    let judged = case(
+        s,
+        kind.value,
+        kind.next,
+        forward,
+        forward_samples,
+        backward,
+        backward_samples,
+    );
+    Ok(Stepped {
+        tally: count(rt, s, t, judged)?,
         forward: forward,
         backward: backward,
-    }
+    })
 }
 
 fn passed(t: Tally, forward: Planes, backward: Planes) -> Stepped {
@@ -153,17 +158,19 @@ fn passed(t: Tally, forward: Planes, backward: Planes) -> Stepped {
 
 /// Goes one line further.
 fn step(
+    rt: &impl Print,
     s: &[u8],
     t: Tally,
     forward: Planes,
     forward_samples: &mut [u8],
     backward: Planes,
     backward_samples: &mut [u8],
-) -> Stepped {
+) -> io::Result<Stepped> {
     match lists::find_next(s, t.at) {
-        Next::End => passed(tally::stopped(t, true), forward, backward),
-        Next::Comment(next) => passed(tally::passed(t, next), forward, backward),
+        Next::End => Ok(passed(tally::stopped(t, true), forward, backward)),
+        Next::Comment(next) => Ok(passed(tally::passed(t, next), forward, backward)),
         Next::Case(at) => step_at(
+            rt,
             s,
             t,
             at,
@@ -176,46 +183,50 @@ fn step(
 }
 
 /// Goes through the list. A line takes two bytes or more, its line feed included, so that there are turns enough.
-fn walk(s: &[u8], forward_samples: &mut [u8], backward_samples: &mut [u8]) -> Tally {
+fn walk(
+    rt: &impl Print,
+    s: &[u8],
+    forward_samples: &mut [u8],
+    backward_samples: &mut [u8],
+) -> io::Result<Tally> {
     let mut t = tally::start();
     let mut forward = planes::no_planes();
     let mut backward = planes::no_planes();
-    let mut turns = s.len();
-    while turns > 0 {
+    for _ in 0..s.len() {
         if !t.on {
-            return t;
+            break;
         }
-        let next = step(s, t, forward, forward_samples, backward, backward_samples);
+        let next = step(
+            rt,
+            s,
+            t,
+            forward,
+            forward_samples,
+            backward,
+            backward_samples,
+        )?;
         t = next.tally;
         forward = next.forward;
         backward = next.backward;
-        turns -= 1;
     }
-    t
+    Ok(t)
 }
 
-/// Reads the list and goes through it. A list that fills the buffer may go on behind it.
-fn replay(buffer: &mut [u8], forward_samples: &mut [u8], backward_samples: &mut [u8]) {
-    let n = io::read_full(STDIN_FILENO, buffer);
-    if n == buffer.len() {
-        io::write_all(STDOUT_FILENO, b"the list is too long\n");
-        return;
-    }
-    tally::report(walk(&buffer[..n], forward_samples, backward_samples));
+/// Reads the list and goes through it.
+fn replay(
+    rt: &(impl Alloc + Input + Print),
+    forward_samples: &mut [u8],
+    backward_samples: &mut [u8],
+) -> io::Result<()> {
+    let mut list = Vec::new(rt.alloc());
+    rt.reader().read_to_end(&mut list)?;
+    let t = walk(rt, list.as_slice(), forward_samples, backward_samples)?;
+    tally::report(rt, t)?;
+    Ok(())
 }
 
-/// Lends the arrays as slices: the prover takes an array's length from its type here, and in `main` would have to count it.
-fn lend(
-    buffer: &mut [u8; 1048576],
-    forward_samples: &mut [u8; 32768],
-    backward_samples: &mut [u8; 32768],
-) {
-    replay(buffer, forward_samples, backward_samples);
-}
-
-fn main() {
-    let mut buffer = [0u8; 1048576];
+fn main(rt: HostRuntime) -> io::Result<()> {
     let mut forward_samples = [0u8; 32768];
     let mut backward_samples = [0u8; 32768];
-    lend(&mut buffer, &mut forward_samples, &mut backward_samples);
+    replay(&rt, &mut forward_samples, &mut backward_samples)
 }

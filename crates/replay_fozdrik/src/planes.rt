@@ -67,11 +67,9 @@ fn sample_of(s: u64) -> u8 {
 
 pub(crate) fn draw(samples: &mut [u8], seed: u64) {
     let mut s = seed;
-    let mut i: usize = 0;
-    while i < samples.len() {
+    for sample in samples {
         s = next_draw(s);
-        samples[i] = sample_of(s);
-        i += 1;
+        *sample = sample_of(s);
     }
 }
 

@@ -16,7 +16,7 @@ fn predict_frame(
     let backward_y = backward.y;
     let backward_cb = backward.cb;
     let backward_cr = backward.cr;
-    fozdrik::prediction::fozdrik_predict_frame_macroblock(
+    entry_points::prediction::fozdrik_predict_frame_macroblock(
         size_at(n, 0),
         size_at(n, 1),
         u32_at(n, 2),
@@ -72,7 +72,7 @@ fn predict_field(
     let backward_y = backward.y;
     let backward_cb = backward.cb;
     let backward_cr = backward.cr;
-    fozdrik::prediction::fozdrik_predict_field_macroblock(
+    entry_points::prediction::fozdrik_predict_field_macroblock(
         size_at(n, 0),
         size_at(n, 1),
         u32_at(n, 2),

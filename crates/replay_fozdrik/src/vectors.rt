@@ -19,7 +19,7 @@ fn reconstruct(
     if vector_length > vector.len() {
         return 4294967295;
     }
-    fozdrik::vectors::fozdrik_reconstruct_motion_vector(
+    entry_points::vectors::fozdrik_reconstruct_motion_vector(
         u32_at(n, 0),
         u32_at(n, 1),
         i32_at(n, 2),
@@ -51,7 +51,7 @@ fn update(
     if outcome_length > outcome.len() {
         return 4294967295;
     }
-    fozdrik::vectors::fozdrik_update_predictors(
+    entry_points::vectors::fozdrik_update_predictors(
         u32_at(n, 0),
         u32_at(n, 1),
         u32_at(n, 2),

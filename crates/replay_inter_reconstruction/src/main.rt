@@ -1,5 +1,6 @@
 //! Replays the macroblocks list, which has the Rust's answers, on `inter_reconstruction`. The list's head says what its fields mean.
 #![tactic(auto)]
+
 ghost use Rattle.std.specs.Prelude.{◌≤◌};
 
 use forming_predictions::ReferencePlane;
@@ -9,9 +10,10 @@ use inter_reconstruction::motion::{
     FieldBasedMotion, FieldDirection, FieldVector, FieldVectorPair, FrameDirection, FrameMotion,
     MotionVectorPel,
 };
-use libc::{STDIN_FILENO, STDOUT_FILENO};
 use lists::Next;
 use pmv::kinds::{ChromaFormat, OptionChromaFormat, OptionFieldParity, OptionFlag};
+use std::io;
+use std::io::Read as _;
 use tally::Tally;
 
 /// A case that was read: whether the port agrees with the list, the place after the case, and whether the line was well formed.
@@ -130,11 +132,9 @@ fn sample_of(s: u64) -> u8 {
 
 fn draw(samples: &mut [u8], seed: u64) {
     let mut s = seed;
-    let mut i: usize = 0;
-    while i < samples.len() {
+    for sample in samples {
         s = next_draw(s);
-        samples[i] = sample_of(s);
-        i += 1;
+        *sample = sample_of(s);
     }
 }
 
@@ -597,14 +597,12 @@ fn read_numbers(s: &[u8], at: usize, count: usize, n: &mut [i64; 40]) -> Read
 {
     let mut next = at;
     let mut good = true;
-    let mut i: usize = 0;
-    while i < count {
+    for i in 0..count {
         let number = lists::read_number(s, next);
         let value = number.value;
         n[i] = value;
         next = number.next;
         good = good & number.good;
-        i += 1;
     }
     Read {
         next: next,
@@ -643,16 +641,17 @@ fn case(
 }
 
 /// Counts a case. It has to end its line.
-fn count(s: &[u8], t: Tally, j: Judged) -> Tally {
+fn count(rt: &impl Print, s: &[u8], t: Tally, j: Judged) -> io::Result<Tally> {
     if j.good & lists::line_ends(s, j.next) {
-        return tally::judged(t, j.agrees, j.next);
+        return tally::judge(rt, t, j.agrees, j.next);
     }
-    tally::stopped(t, false)
+    Ok(tally::stopped(t, false))
 }
 
 /// A line that sets planes counts as a case that agrees.
-fn set(s: &[u8], t: Tally, next: usize, good: bool) -> Tally {
+fn set(rt: &impl Print, s: &[u8], t: Tally, next: usize, good: bool) -> io::Result<Tally> {
     count(
+        rt,
         s,
         t,
         Judged {
@@ -665,6 +664,7 @@ fn set(s: &[u8], t: Tally, next: usize, good: bool) -> Tally {
 
 /// `1 REFERENCE` and the planes, from REFERENCE on, where it is the forward reference or the backward one.
 fn setting(
+    rt: &impl Print,
     s: &[u8],
     t: Tally,
     at: usize,
@@ -672,7 +672,7 @@ fn setting(
     forward_samples: &mut [u8],
     backward: Planes,
     backward_samples: &mut [u8],
-) -> Stepped {
+) -> io::Result<Stepped> {
     let mut n = [0i64; 40];
     let read = read_numbers(s, at, count_of(1), &mut n);
     let planes = planes_at(&n, 1);
@@ -685,21 +685,34 @@ fn setting(
     let seed = lists::size_of(n[10]) as u64;
     if n[0] == 0 {
         draw(forward_samples, seed);
-        return Stepped {
-            tally: set(s, t, read.next, good & has_room(planes, forward_samples)),
+        return Ok(Stepped {
+            tally: set(
+                rt,
+                s,
+                t,
+                read.next,
+                good & has_room(planes, forward_samples),
+            )?,
             forward: planes,
             backward: backward,
-        };
+        });
     }
     draw(backward_samples, seed);
-    Stepped {
-        tally: set(s, t, read.next, good & has_room(planes, backward_samples)),
+    Ok(Stepped {
+        tally: set(
+            rt,
+            s,
+            t,
+            read.next,
+            good & has_room(planes, backward_samples),
+        )?,
         forward: forward,
         backward: planes,
-    }
+    })
 }
 
 fn step_at(
+    rt: &impl Print,
     s: &[u8],
     t: Tally,
     at: usize,
@@ -707,10 +720,11 @@ fn step_at(
     forward_samples: &mut [u8],
     backward: Planes,
     backward_samples: &mut [u8],
-) -> Stepped {
+) -> io::Result<Stepped> {
     let kind = lists::read_number(s, at);
     if kind.value == 1 {
         return setting(
+            rt,
             s,
             t,
             kind.next,
@@ -720,23 +734,20 @@ fn step_at(
             backward_samples,
         );
     }
-    Stepped {
-        tally: count(
-            s,
-            t,
-            case(
-                s,
-                kind.value,
-                kind.next,
-                forward,
-                forward_samples,
-                backward,
-                backward_samples,
-            ),
-        ),
+    let judged = case(
+        s,
+        kind.value,
+        kind.next,
+        forward,
+        forward_samples,
+        backward,
+        backward_samples,
+    );
+    Ok(Stepped {
+        tally: count(rt, s, t, judged)?,
         forward: forward,
         backward: backward,
-    }
+    })
 }
 
 fn passed(t: Tally, forward: Planes, backward: Planes) -> Stepped {
@@ -749,17 +760,19 @@ fn passed(t: Tally, forward: Planes, backward: Planes) -> Stepped {
 
 /// Goes one line further.
 fn step(
+    rt: &impl Print,
     s: &[u8],
     t: Tally,
     forward: Planes,
     forward_samples: &mut [u8],
     backward: Planes,
     backward_samples: &mut [u8],
-) -> Stepped {
+) -> io::Result<Stepped> {
     match lists::find_next(s, t.at) {
-        Next::End => passed(tally::stopped(t, true), forward, backward),
-        Next::Comment(next) => passed(tally::passed(t, next), forward, backward),
+        Next::End => Ok(passed(tally::stopped(t, true), forward, backward)),
+        Next::Comment(next) => Ok(passed(tally::passed(t, next), forward, backward)),
         Next::Case(at) => step_at(
+            rt,
             s,
             t,
             at,
@@ -785,46 +798,50 @@ fn no_planes() -> Planes {
 }
 
 /// Goes through the list. A line takes two bytes or more, its line feed included, so that there are turns enough.
-fn walk(s: &[u8], forward_samples: &mut [u8], backward_samples: &mut [u8]) -> Tally {
+fn walk(
+    rt: &impl Print,
+    s: &[u8],
+    forward_samples: &mut [u8],
+    backward_samples: &mut [u8],
+) -> io::Result<Tally> {
     let mut t = tally::start();
     let mut forward = no_planes();
     let mut backward = no_planes();
-    let mut turns = s.len();
-    while turns > 0 {
+    for _ in 0..s.len() {
         if !t.on {
-            return t;
+            break;
         }
-        let next = step(s, t, forward, forward_samples, backward, backward_samples);
+        let next = step(
+            rt,
+            s,
+            t,
+            forward,
+            forward_samples,
+            backward,
+            backward_samples,
+        )?;
         t = next.tally;
         forward = next.forward;
         backward = next.backward;
-        turns -= 1;
     }
-    t
+    Ok(t)
 }
 
-/// Reads the list and goes through it. A list that fills the buffer may go on behind it.
-fn replay(buffer: &mut [u8], forward_samples: &mut [u8], backward_samples: &mut [u8]) {
-    let n = io::read_full(STDIN_FILENO, buffer);
-    if n == buffer.len() {
-        io::write_all(STDOUT_FILENO, b"the list is too long\n");
-        return;
-    }
-    tally::report(walk(&buffer[..n], forward_samples, backward_samples));
+/// Reads the list and goes through it.
+fn replay(
+    rt: &(impl Alloc + Input + Print),
+    forward_samples: &mut [u8],
+    backward_samples: &mut [u8],
+) -> io::Result<()> {
+    let mut list = Vec::new(rt.alloc());
+    rt.reader().read_to_end(&mut list)?;
+    let t = walk(rt, list.as_slice(), forward_samples, backward_samples)?;
+    tally::report(rt, t)?;
+    Ok(())
 }
 
-/// Lends the arrays as slices: the prover takes an array's length from its type here, and in `main` would have to count it.
-fn lend(
-    buffer: &mut [u8; 1048576],
-    forward_samples: &mut [u8; 65536],
-    backward_samples: &mut [u8; 65536],
-) {
-    replay(buffer, forward_samples, backward_samples);
-}
-
-fn main() {
-    let mut buffer = [0u8; 1048576];
+fn main(rt: HostRuntime) -> io::Result<()> {
     let mut forward_samples = [0u8; 65536];
     let mut backward_samples = [0u8; 65536];
-    lend(&mut buffer, &mut forward_samples, &mut backward_samples);
+    replay(&rt, &mut forward_samples, &mut backward_samples)
 }

@@ -1,14 +1,16 @@
 //! Replays the placing list on `place_macroblock`. Its answers are those of an account of placing by the words of docs/SCOPE.md, since the Rust
 //! has no such call. The list's head says what its fields mean.
 #![tactic(auto)]
+
 ghost use Rattle.std.specs.Prelude.{◌≤◌};
 
 use forming_predictions::ReferencePlane;
 use inter_reconstruction::frames::{FrameBuffer, FrameGeometry};
 use inter_reconstruction::placing::{MacroblockPlacement, place_macroblock};
-use libc::{STDIN_FILENO, STDOUT_FILENO};
 use lists::Next;
 use pmv::kinds::{ChromaFormat, OptionChromaFormat};
+use std::io;
+use std::io::Read as _;
 use tally::Tally;
 
 /// How many bytes behind those of a plane are drawn and compared.
@@ -74,11 +76,9 @@ fn byte_of_draw(s: u64) -> u8 {
 /// Draws all bytes, from a number on, and answers with the last number.
 fn draw(bytes: &mut [u8], seed: u64) -> u64 {
     let mut s = seed;
-    let mut i: usize = 0;
-    while i < bytes.len() {
+    for byte in bytes {
         s = next_draw(s);
-        bytes[i] = byte_of_draw(s);
-        i += 1;
+        *byte = byte_of_draw(s);
     }
     s
 }
@@ -92,10 +92,8 @@ fn told_by(h: u64, byte: u8) -> u64 {
 /// The number that tells bytes in their order.
 fn told(bytes: &[u8]) -> u64 {
     let mut h: u64 = 0;
-    let mut i: usize = 0;
-    while i < bytes.len() {
-        h = told_by(h, bytes[i]);
-        i += 1;
+    for byte in bytes {
+        h = told_by(h, *byte);
     }
     h
 }
@@ -341,14 +339,12 @@ fn placing(n: &[i64; 20], bytes: &mut [u8], y: &mut [u8], cb: &mut [u8], cr: &mu
 fn read_numbers(s: &[u8], at: usize, n: &mut [i64; 20]) -> Read {
     let mut next = at;
     let mut good = true;
-    let mut i: usize = 0;
-    while i < 20 {
+    for i in 0..20 {
         let number = lists::read_number(s, next);
         let value = number.value;
         n[i] = value;
         next = number.next;
         good = good & number.good;
-        i += 1;
     }
     Read {
         next: next,
@@ -371,60 +367,64 @@ fn case(s: &[u8], at: usize, y: &mut [u8], cb: &mut [u8], cr: &mut [u8]) -> Judg
 }
 
 /// Counts a case. It has to end its line.
-fn count(s: &[u8], t: Tally, j: Judged) -> Tally {
+fn count(rt: &impl Print, s: &[u8], t: Tally, j: Judged) -> io::Result<Tally> {
     if j.good & lists::line_ends(s, j.next) {
-        return tally::judged(t, j.agrees, j.next);
+        return tally::judge(rt, t, j.agrees, j.next);
     }
-    tally::stopped(t, false)
+    Ok(tally::stopped(t, false))
 }
 
 /// Goes one line further.
-fn step(s: &[u8], t: Tally, y: &mut [u8], cb: &mut [u8], cr: &mut [u8]) -> Tally {
+fn step(
+    rt: &impl Print,
+    s: &[u8],
+    t: Tally,
+    y: &mut [u8],
+    cb: &mut [u8],
+    cr: &mut [u8],
+) -> io::Result<Tally> {
     match lists::find_next(s, t.at) {
-        Next::End => tally::stopped(t, true),
-        Next::Comment(next) => tally::passed(t, next),
-        Next::Case(at) => count(s, t, case(s, at, y, cb, cr)),
+        Next::End => Ok(tally::stopped(t, true)),
+        Next::Comment(next) => Ok(tally::passed(t, next)),
+        Next::Case(at) => count(rt, s, t, case(s, at, y, cb, cr)),
     }
 }
 
 /// Goes through the list. A line takes two bytes or more, its line feed included, so that there are turns enough.
-fn walk(s: &[u8], y: &mut [u8], cb: &mut [u8], cr: &mut [u8]) -> Tally {
+fn walk(
+    rt: &impl Print,
+    s: &[u8],
+    y: &mut [u8],
+    cb: &mut [u8],
+    cr: &mut [u8],
+) -> io::Result<Tally> {
     let mut t = tally::start();
-    let mut turns = s.len();
-    while turns > 0 {
+    for _ in 0..s.len() {
         if !t.on {
-            return t;
+            break;
         }
-        t = step(s, t, y, cb, cr);
-        turns -= 1;
+        t = step(rt, s, t, y, cb, cr)?;
     }
-    t
+    Ok(t)
 }
 
-/// Reads the list and goes through it. A list that fills the buffer may go on behind it.
-fn replay(buffer: &mut [u8], y: &mut [u8], cb: &mut [u8], cr: &mut [u8]) {
-    let n = io::read_full(STDIN_FILENO, buffer);
-    if n == buffer.len() {
-        io::write_all(STDOUT_FILENO, b"the list is too long\n");
-        return;
-    }
-    tally::report(walk(&buffer[..n], y, cb, cr));
+/// Reads the list and goes through it.
+fn replay(
+    rt: &(impl Alloc + Input + Print),
+    y: &mut [u8],
+    cb: &mut [u8],
+    cr: &mut [u8],
+) -> io::Result<()> {
+    let mut list = Vec::new(rt.alloc());
+    rt.reader().read_to_end(&mut list)?;
+    let t = walk(rt, list.as_slice(), y, cb, cr)?;
+    tally::report(rt, t)?;
+    Ok(())
 }
 
-/// Lends the arrays as slices: the prover takes an array's length from its type here, and in `main` would have to count it.
-fn lend(
-    buffer: &mut [u8; 1048576],
-    y: &mut [u8; 262464],
-    cb: &mut [u8; 262464],
-    cr: &mut [u8; 262464],
-) {
-    replay(buffer, y, cb, cr);
-}
-
-fn main() {
-    let mut buffer = [0u8; 1048576];
-    let mut y = [0u8; 262464];
-    let mut cb = [0u8; 262464];
-    let mut cr = [0u8; 262464];
-    lend(&mut buffer, &mut y, &mut cb, &mut cr);
+fn main(rt: HostRuntime) -> io::Result<()> {
+    let mut y = vec![in rt.alloc(); 0u8; 262464]?;
+    let mut cb = vec![in rt.alloc(); 0u8; 262464]?;
+    let mut cr = vec![in rt.alloc(); 0u8; 262464]?;
+    replay(&rt, y.as_mut_slice(), cb.as_mut_slice(), cr.as_mut_slice())
 }

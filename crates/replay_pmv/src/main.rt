@@ -1,9 +1,9 @@
 //! Replays the vectors list, which has the Rust's answers, on `pmv`. The list's head says what its fields mean. One record of predictors is
 //! lent from line to line, to the calls of `pmv::lent`; all other lines bring their own.
 #![tactic(auto)]
+
 ghost use Rattle.std.specs.Prelude.{◌≤◌};
 
-use libc::{STDIN_FILENO, STDOUT_FILENO};
 use lists::Next;
 use pmv::component::{
     ComputedDelta, FoundRange, MotionResidual, Reconstructed, ReconstructedComponent, VectorRange,
@@ -20,6 +20,8 @@ use pmv::lent::{
 use pmv::predictors::Pmv;
 use pmv::update::{PmvUpdateContext, Updated};
 use pmv::vector::{MotionVector, ReconstructedVector, VectorComponents};
+use std::io;
+use std::io::Read as _;
 use tally::Tally;
 
 /// What a line asks `decode_motion_vector` about.
@@ -900,14 +902,12 @@ fn read_numbers(s: &[u8], at: usize, count: usize, n: &mut [i64; 40]) -> Read
 {
     let mut next = at;
     let mut good = true;
-    let mut i: usize = 0;
-    while i < count {
+    for i in 0..count {
         let number = lists::read_number(s, next);
         let value = number.value;
         n[i] = value;
         next = number.next;
         good = good & number.good & is_i32(value);
-        i += 1;
     }
     Read {
         next: next,
@@ -1008,6 +1008,7 @@ fn value_set(l: Line, got: i32) -> i32 {
 
 /// Goes one line further.
 fn count(
+    rt: &impl Print,
     t: Tally,
     l: Line,
     before: Pmv,
@@ -1017,26 +1018,26 @@ fn count(
     updated: Updated,
     applied: bool,
     after: Pmv,
-) -> Tally {
+) -> io::Result<Tally> {
     let n = l.n;
     if !t.on {
-        return t;
+        return Ok(t);
     }
     if l.comment {
-        return tally::passed(t, l.next);
+        return Ok(tally::passed(t, l.next));
     }
     if !l.case {
-        return tally::stopped(t, true);
+        return Ok(tally::stopped(t, true));
     }
     if !l.good {
-        return tally::stopped(t, false);
+        return Ok(tally::stopped(t, false));
     }
     if !good_call(l) {
-        return tally::stopped(t, false);
+        return Ok(tally::stopped(t, false));
     }
     let answers = same_answer(&n, l.lent, got, decoded, reconstructed, updated, applied);
     let record = same_record(&n, l.lent, before, after);
-    tally::judged(t, l.agrees & answers & record, l.next)
+    tally::judge(rt, t, l.agrees & answers & record, l.next)
 }
 
 /// The record after a reset, where a line asks for one.
@@ -1050,11 +1051,10 @@ fn reset_if(l: Line, pmv: Pmv, reset: Pmv) -> Pmv {
 /// Goes through the list, and lends one record to its calls: to each in every turn, with arguments that it refuses or that change nothing
 /// where the line does not ask for it; the reset is made of a copy. A line takes two bytes or more, its line feed included, so that there are
 /// turns enough.
-fn walk(s: &[u8]) -> Tally {
+fn walk(rt: &impl Print, s: &[u8]) -> io::Result<Tally> {
     let mut pmv = Pmv::new();
     let mut t = tally::start();
-    let mut turns = s.len();
-    while turns > 0 {
+    for _ in 0..s.len() {
         let l = next_line(s, t);
         let before = pmv;
         let got = pmv.get(l.place.r, l.place.s, l.place.t);
@@ -1088,6 +1088,7 @@ fn walk(s: &[u8]) -> Tally {
         reset.reset();
         pmv = reset_if(l, pmv, reset);
         t = count(
+            rt,
             t,
             l,
             before,
@@ -1097,28 +1098,20 @@ fn walk(s: &[u8]) -> Tally {
             updated,
             applied,
             pmv,
-        );
-        turns -= 1;
+        )?;
     }
-    t
+    Ok(t)
 }
 
-/// Reads the list and goes through it. A list that fills the buffer may go on behind it.
-fn replay(buffer: &mut [u8]) {
-    let n = io::read_full(STDIN_FILENO, buffer);
-    if n == buffer.len() {
-        io::write_all(STDOUT_FILENO, b"the list is too long\n");
-        return;
-    }
-    tally::report(walk(&buffer[..n]));
+/// Reads the list and goes through it.
+fn replay(rt: &(impl Alloc + Input + Print)) -> io::Result<()> {
+    let mut list = Vec::new(rt.alloc());
+    rt.reader().read_to_end(&mut list)?;
+    let t = walk(rt, list.as_slice())?;
+    tally::report(rt, t)?;
+    Ok(())
 }
 
-/// Lends the array as a slice: the prover takes the array's length from its type here, and in `main` would have to count it.
-fn lend(buffer: &mut [u8; 1048576]) {
-    replay(buffer);
-}
-
-fn main() {
-    let mut buffer = [0u8; 1048576];
-    lend(&mut buffer);
+fn main(rt: HostRuntime) -> io::Result<()> {
+    replay(&rt)
 }
