@@ -28,7 +28,7 @@ fn number_of(answer: MacroblockPrediction) -> u32
     ensures { result ≡ predictionNumber answer }
 {
     match answer {
-        MacroblockPrediction::Done => 0,
+        MacroblockPrediction::Done(_) => 0,
         MacroblockPrediction::Refused(number) => number as u32,
     }
 }

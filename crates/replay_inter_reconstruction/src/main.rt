@@ -8,7 +8,7 @@ use inter_reconstruction::frames::{FrameBuffer, FrameGeometry, ReferenceFrame};
 use inter_reconstruction::macroblock::MacroblockPrediction;
 use inter_reconstruction::motion::{
     FieldBasedMotion, FieldDirection, FieldVector, FieldVectorPair, FrameDirection, FrameMotion,
-    MotionVectorPel,
+    MotionVectorPel, UsedDirections,
 };
 use lists::Next;
 use pmv::kinds::{ChromaFormat, OptionChromaFormat, OptionFieldParity, OptionFlag};
@@ -344,13 +344,13 @@ fn count_of(kind: i64) -> usize
 {
     match kind {
         1 => 11,
-        2 => 22,
-        3 => 30,
+        2 => 23,
+        3 => 31,
         _ => 0,
     }
 }
 
-/// Where `FILL LENGTH ANSWER` stand, behind the motion.
+/// Where `FILL LENGTH ANSWER USED` stand, behind the motion.
 fn fill_of(kind: i64) -> usize
     ensures { result ≤ 27 }
 {
@@ -391,8 +391,23 @@ fn motion_of(kind: i64, n: &[i64; 40]) -> OptionMotion {
 /// The number of an answer. No refusal has number 0, which is acceptance's: 256 stands for such an answer.
 fn number_of(a: MacroblockPrediction) -> i64 {
     match a {
-        MacroblockPrediction::Done => 0,
+        MacroblockPrediction::Done(_) => 0,
         MacroblockPrediction::Refused(n) => { if n == 0 { 256 } else { n as i64 } }
+    }
+}
+
+/// The directions of an accepted answer, 1 for the forward one and 2 for the backward one, added; 0 for a refusal.
+fn directions_of(a: MacroblockPrediction) -> i64 {
+    match a {
+        MacroblockPrediction::Done(told) => {
+            let directions = told.directions;
+            match directions {
+                UsedDirections::Forward => 1,
+                UsedDirections::Backward => 2,
+                UsedDirections::Both => 3,
+            }
+        }
+        MacroblockPrediction::Refused(_) => 0,
     }
 }
 
@@ -453,7 +468,7 @@ fn is_as_listed(out: &[u8], before: &[u8], after: &[u8]) -> bool {
     check::same(out, after)
 }
 
-/// Predicts, and compares number and output.
+/// Predicts, and compares number, directions and output.
 fn predicts(
     dest: FrameGeometry,
     forward: ReferenceFrame,
@@ -468,6 +483,7 @@ fn predicts(
     out: &mut [u8],
     before: &[u8],
     answer: i64,
+    used: i64,
     after: &[u8],
 ) -> bool {
     let given = predict(
@@ -485,7 +501,7 @@ fn predicts(
         motion,
         out,
     );
-    (number_of(given) == answer) & is_as_listed(out, before, after)
+    ((number_of(given) == answer) & (directions_of(given) == used)) & is_as_listed(out, before, after)
 }
 
 /// The same, with the first bytes of `room` as the output. Those behind them have to stay as they are, which is as in `kept`.
@@ -505,6 +521,7 @@ fn predicts_in(
     byte: u8,
     length: usize,
     answer: i64,
+    used: i64,
     after: &[u8],
 ) -> bool {
     if length > room.len() {
@@ -526,6 +543,7 @@ fn predicts_in(
         &mut room[0..length],
         lists::front(kept, length),
         answer,
+        used,
         after,
     );
     agrees & check::same(lists::behind(room, length), lists::behind(kept, length))
@@ -540,8 +558,8 @@ fn not_well_formed() -> Verdict {
     }
 }
 
-/// `WIDTH HEIGHT CHROMA`, those of the references with PRESENT, `MB_COL MB_ROW`, the motion, `FILL LENGTH ANSWER`. No list has a longer output
-/// than 1024.
+/// `WIDTH HEIGHT CHROMA`, those of the references with PRESENT, `MB_COL MB_ROW`, the motion, `FILL LENGTH ANSWER USED`. No list has a longer
+/// output than 1024.
 fn predicting(
     kind: i64,
     n: &[i64; 40],
@@ -585,6 +603,7 @@ fn predicting(
             lists::byte_of(byte),
             lists::size_of(length),
             n[fill + 2],
+            n[fill + 3],
             after,
         ),
         good: (n[11] >= 0) & (n[12] >= 0) & is_byte(byte) & (length >= 0) & (length <= 1024),

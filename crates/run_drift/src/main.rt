@@ -402,7 +402,7 @@ fn field_direction(d: Direction) -> FieldDirection {
 /// The number of an answer. No refusal has number 0, which is acceptance's: 256 stands for such an answer.
 fn number_of(a: MacroblockPrediction) -> u64 {
     match a {
-        MacroblockPrediction::Done => 0,
+        MacroblockPrediction::Done(_) => 0,
         MacroblockPrediction::Refused(n) => { if n == 0 { 256 } else { n as u64 } }
     }
 }
@@ -549,16 +549,22 @@ fn set(c: Component, bytes: &[u8], samples: &mut [u64]) {
 
 // ---- what the table refuses
 
+/// Whether a direction is left out: both have motion, and of the references the other's alone is there.
+fn left_out(d: Direction, other: Direction) -> bool {
+    (d.moves & other.moves) & (!d.there & other.there)
+}
+
 /// Without motion in either direction the forward reference is used.
 fn uses_forward(s: Step) -> bool {
     let forward = s.forward;
     let backward = s.backward;
-    forward.moves | !backward.moves
+    (forward.moves | !backward.moves) & !left_out(forward, backward)
 }
 
 fn uses_backward(s: Step) -> bool {
+    let forward = s.forward;
     let backward = s.backward;
-    backward.moves
+    backward.moves & !left_out(backward, forward)
 }
 
 /// What the table of docs/SCOPE.md refuses of a step, by its number, or 0: prediction, then placing. In pictures whose planes fit, no other
