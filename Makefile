@@ -276,11 +276,11 @@ split-check:
 	@$(UNDIVIDED) -v of='$(SPLIT)' $(SPLIT_SOURCE)
 	@! $(UNDIVIDED) -v of=avg4 $(SPLIT_SOURCE) >build/divided.txt
 	@grep -q 'avg4 has a division' build/divided.txt
-	@sed 's/^    vector >> 1$$/    vector >> one/' $(SPLIT_SOURCE) >build/named.rt
-	@! $(UNDIVIDED) -v of='$(SPLIT)' build/named.rt >build/divided.txt
+	@sed 's/^    vector >> 1$$/    vector >> one/' $(SPLIT_SOURCE) >build/named.src
+	@! $(UNDIVIDED) -v of='$(SPLIT)' build/named.src >build/divided.txt
 	@grep -q 'whole_part names one' build/divided.txt
-	@awk -f docs/edited.awk crates/forming_predictions/must-fail/divided_split.edit $(SPLIT_SOURCE) >build/divided.rt
-	@! $(UNDIVIDED) -v of='$(SPLIT)' build/divided.rt >build/divided.txt
+	@awk -f docs/edited.awk crates/forming_predictions/must-fail/divided_split.edit $(SPLIT_SOURCE) >build/divided.src
+	@! $(UNDIVIDED) -v of='$(SPLIT)' build/divided.src >build/divided.txt
 	@grep -q 'is_half has a division' build/divided.txt
 	@echo "where there is a division, the text shows it"
 

@@ -1,5 +1,6 @@
 //! The update and the vector call behind C entry points, for the benchmark alone: no part of the card's interface.
 #![tactic(auto)]
+
 ghost use Rattle.std.specs.Prelude.{◌≡◌};
 ghost use Rattle.pmv.specs.Update.{updated};
 ghost use Rattle.pmv.specs.Vector.{ported, reconstructed};

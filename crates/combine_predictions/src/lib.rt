@@ -1,6 +1,7 @@
 //! ISO/IEC 13818-2, 7.6.7: combining predictions. A macroblock that is predicted from two directions gets the mean of the two
 //! predictions, sample by sample; one that is predicted from one direction gets that prediction as it is.
 #![tactic(auto)]
+
 ghost use Rattle.std.specs.Prelude.{◌≡◌, length};
 ghost use Rattle.combine_predictions.specs.Refusals.{unlessRefused};
 ghost use Rattle.combine_predictions.specs.Averaging.{mean2, averaged, averageAnswer, number_of};

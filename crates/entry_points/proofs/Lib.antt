@@ -2,4 +2,3 @@
 pub mod Words
 pub mod ReadBack
 pub mod Updates
-pub mod Presences

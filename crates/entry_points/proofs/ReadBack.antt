@@ -13,8 +13,8 @@ use Rattle.laws.specs.All.{All}
 use Rattle.laws.specs.Tabulate.{tabulate}
 use Rattle.laws.proofs.Tabulated.{tab-self}
 use Rattle.pmv.specs.declared.predictors.Pmv.{Pmv}
-use Rattle.fozdrik.specs.Layout.{word_of, signed_of, bytes_of, word_at, number_at, predictorsOf, numbersBytes, predictorBytes}
-use Rattle.fozdrik.proofs.Words.{Eight, eight, eight-of, word-is, word_fits, word_back, number-back}
+use Rattle.entry_points.specs.Layout.{word_of, signed_of, bytes_of, word_at, number_at, predictorsOf, numbersBytes, predictorBytes}
+use Rattle.entry_points.proofs.Words.{Eight, eight, eight-of, word-is, word_fits, word_back, number-back}
 
 -- ---- numbers, by way of bytes
 

@@ -13,10 +13,10 @@ use Rattle.combine_predictions.specs.Refusals.{unlessRefused}
 use Rattle.pmv.specs.Answers.{updateNumber, updateAnswer}
 use Rattle.pmv.specs.Update.{updateRefusal, updateOutcome, outcomeNumber, after, updated}
 use Rattle.pmv.specs.Kinds.{flagFrom, flagKnown, indexFrom, indexKnown, directionFrom, directionKnown, formatFrom, formatKnown, structureFrom, structureKnown, typeFrom, typeKnown}
-use Rattle.fozdrik.specs.Layout.{predictorsOf, predictorBytes}
-use Rattle.fozdrik.specs.Entries.{presenceKnown, vectorKnown, updateKnown}
-use Rattle.fozdrik.specs.inner.Outcomes.{outcomeByte}
-use Rattle.fozdrik.proofs.ReadBack.{bytes-read-back}
+use Rattle.entry_points.specs.Layout.{predictorsOf, predictorBytes}
+use Rattle.entry_points.specs.Entries.{presenceKnown, vectorKnown, updateKnown}
+use Rattle.entry_points.specs.inner.Outcomes.{outcomeByte}
+use Rattle.entry_points.proofs.ReadBack.{bytes-read-back}
 use Rattle.pmv.specs.declared.predictors.Pmv.{Pmv}
 use Rattle.pmv.specs.declared.update.PmvUpdateContext.{PmvUpdateContext}
 use Rattle.pmv.specs.declared.update.PredictorUpdate.{PredictorUpdate}

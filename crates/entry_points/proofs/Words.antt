@@ -1,24 +1,19 @@
--- Two's complement in 32 bits: what the sums with 2 ^ 32 give, and that a word and its bytes can be read back.
+-- Two's complement in 32 bits: a word and its bytes can be read back. And buffers that are written part by part.
 -- Assumes nothing.
 use mathlib.Core.Path.{◌≡◌, refl, sym, ap, ◌∙◌}
-use mathlib.Core.Bool.{true, false}
-use mathlib.Core.List.{List, [], ◌∷◌, ◌++◌}
-use Prim.Native.Nat.{ℕ, suc, ◌+◌, ◌-◌, ◌*◌, ◌/◌, ◌%◌, ◌≤◌, ◌<◌}
+use mathlib.Core.List.{List, [], ◌∷◌, ◌++◌, append-nil}
+use Prim.Native.Nat.{ℕ, ◌+◌, ◌-◌, ◌*◌, ◌/◌, ◌%◌, ◌<◌}
 use native.Mathlib.Nat.{div-add-mod', mod-eq_of_lt}
 use native.Mathlib.Omega.{arith}
-use lib.Dec.{T, ltb}
-use lib.IntN.{ℤ, pos, negsuc, nat_abs, ◌+ℤ◌, ◌-ℤ◌}
+use lib.IntN.{ℤ, pos, negsuc}
 use lib.ListN.{length, get_or, set, take, drop}
-use lib.Seq.{drop-drop}
+use lib.Seq.{take_at, drop_at, drop-drop, drop-length}
 use lib.Pow.{shr-shr}
-use lib.Signed.{lt_z, non_neg}
-use mir.Syntax.{w32, w64}
-use mir.Val.{SFits, Fits, of_z}
-use mir.Facts.{to_z-of_z, Fits-of_z, Fits-nat_abs}
-use borrow.Author.Tests.{le-ltb}
-use borrow.Rule.Slice.PartMut.{put_mid}
-use Rattle.laws.proofs.Signed.{eq-z, add-z, sub-z, lt_yes, lt_no, sfits-z, sfits-lo}
-use Rattle.fozdrik.specs.Layout.{word_of, signed_of, bytes_of, number_at, predictorsOf, pairBytes, numbersBytes}
+use mir.Syntax.{w32}
+use mir.Val.{SFits, of_z}
+use mir.Facts.{to_z-of_z, Fits-of_z}
+use borrow.Rule.Slice.PartMut.{put_mid, post_of}
+use Rattle.entry_points.specs.Layout.{word_of, signed_of, bytes_of, number_at, predictorsOf, pairBytes, numbersBytes}
 use Rattle.pmv.specs.Predictors.{pmvIndex, pair_of}
 use Rattle.pmv.specs.declared.kinds.Component.TheVariants.{Horizontal}
 use Rattle.pmv.specs.declared.kinds.VectorIndex.{VectorIndex}
@@ -26,43 +21,6 @@ use Rattle.pmv.specs.declared.kinds.VectorIndex.TheVariants.{First, Second}
 use Rattle.pmv.specs.declared.kinds.Direction.{Direction}
 use Rattle.pmv.specs.declared.kinds.Direction.TheVariants.{Forward, Backward}
 use Rattle.pmv.specs.declared.predictors.PredictorPair.{PredictorPair}
-
--- ---- the sums
-
--- a word from 2 ^ 31 on
-module _ (x : ℕ) (h : 2147483648 ≤ x) (k : x < 4294967296) where
-  pub high : signed_of x ≡ pos x -ℤ pos 4294967296
-  high =
-      let e : ltb x 2147483648 ≡ false = le-ltb x 2147483648 h in
-      rw e (eq-z (negsuc (4294967296 - suc x)) (pos x -ℤ pos 4294967296) (omega (arith, sub-z (pos x) (pos 4294967296))))
-
-  pub high_fits : SFits w32 (pos x -ℤ pos 4294967296)
-  high_fits =
-      let e = sub-z (pos x) (pos 4294967296) in
-      sfits-z w32 (pos x -ℤ pos 4294967296) (omega arith) (omega arith)
-
--- a number below 0
-pub low : (v : ℤ) → SFits w32 v → lt_z v (pos 0) ≡ true → v +ℤ pos 4294967296 ≡ pos (word_of v)
-low (pos n) f t = let h = lt_yes (pos n) (pos 0) t in absurd (omega arith)
-low (negsuc n) f t =
-    let d = sfits-lo w32 (negsuc n) f in
-    eq-z (negsuc n +ℤ pos 4294967296) (pos (4294967296 - suc n)) (omega (arith, add-z (negsuc n) (pos 4294967296)))
-
-pub low_fits : (v : ℤ) → SFits w32 v → lt_z v (pos 0) ≡ true → SFits w64 (v +ℤ pos 4294967296)
-low_fits v f t =
-    let d = sfits-lo w32 v f in
-    let h = lt_yes v (pos 0) t in
-    let e = add-z v (pos 4294967296) in
-    sfits-z w64 (v +ℤ pos 4294967296) (omega arith) (omega arith)
-
--- a number from 0 on
-pub plain : (v : ℤ) → SFits w32 v → lt_z v (pos 0) ≡ false → T (non_neg v) × Fits w32 (nat_abs v)
-plain (pos n) f t = (tt, Fits-nat_abs tt f)
-plain (negsuc n) f t = let h = lt_no (negsuc n) (pos 0) t in absurd (omega arith)
-
-pub plain_word : (v : ℤ) → lt_z v (pos 0) ≡ false → nat_abs v ≡ word_of v
-plain_word (pos n) t = refl
-plain_word (negsuc n) t = let h = lt_no (negsuc n) (pos 0) t in absurd (omega arith)
 
 -- the definitions are the machine's
 pub word-is : (z : ℤ) → of_z w32 z ≡ word_of z
@@ -112,6 +70,13 @@ pair-at l First Forward k h v e p q = λ i. record { horizontal = (p ∙ ap (λ 
 pair-at l First Backward k h v e p q = λ i. record { horizontal = (p ∙ ap (λ (j : ℕ). number_at l (4 * j)) e) i; vertical = (q ∙ ap (λ (j : ℕ). number_at l (4 * j + 4)) e) i }
 pair-at l Second Forward k h v e p q = λ i. record { horizontal = (p ∙ ap (λ (j : ℕ). number_at l (4 * j)) e) i; vertical = (q ∙ ap (λ (j : ℕ). number_at l (4 * j + 4)) e) i }
 pair-at l Second Backward k h v e p q = λ i. record { horizontal = (p ∙ ap (λ (j : ℕ). number_at l (4 * j)) e) i; vertical = (q ∙ ap (λ (j : ℕ). number_at l (4 * j + 4)) e) i }
+
+-- x and then y written to the two halves of l
+pub halves_written : (k : ℕ) (l : List ℕ) {a b x y : List ℕ}
+    → a ≡ x → b ≡ y → length x ≡ k → length y ≡ k → length l ≡ k + k
+    → put_mid k k (a ++ post_of 0 k l) b ≡ x ++ y
+halves_written k l {a} {b} {x} {y} e f n m h =
+    rw (e, f, take_at x (drop k l) k n, drop_at x (drop k l) k n, drop-drop k k l, ← h, drop-length l, append-nil y)
 
 -- eight bytes written to &mut l[k..k + 8]
 pub replaced-is : (k : ℕ) (l ys : List ℕ) → put_mid k (k + 8 - k) l ys ≡ take k l ++ (ys ++ drop (k + 8) l)

@@ -19,7 +19,7 @@ use Rattle.pmv.specs.declared.vector.DecodedPair.{DecodedPair}
 use Rattle.pmv.specs.declared.vector.ReconstructedVector.{ReconstructedVector}
 use Rattle.pmv.specs.declared.vector.ReconstructedVector.TheVariants as Vec
 use Rattle.pmv.specs.declared.update.PmvUpdateContext.{PmvUpdateContext}
-use Rattle.fozdrik.specs.Layout.{predictorsOf, pairBytes}
+use Rattle.entry_points.specs.Layout.{predictorsOf, pairBytes}
 use Rattle.inter_reconstruction.specs.declared.frames.FrameGeometry.{FrameGeometry}
 use Rattle.inter_reconstruction.specs.declared.frames.ReferenceFrame.{ReferenceFrame}
 use Rattle.inter_reconstruction.specs.declared.frames.ReferenceFrame.TheVariants as Reference

@@ -1,4 +1,4 @@
-//! The C interface of the card: four entry points on numbers and byte slices, over the calls of the layers.
+//! What the C interface of the card does: four calls on numbers and byte slices, over the calls of the layers. The crate `fozdrik` exports them.
 #![tactic(auto)]
 
 /// The entry points that predict.

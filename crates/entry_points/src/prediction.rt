@@ -7,7 +7,7 @@ ghost use Rattle.inter_reconstruction.specs.Frames.{samplesOf, lengthsOf, isPres
 ghost use Rattle.inter_reconstruction.specs.Macroblock.{predicted};
 ghost use Rattle.inter_reconstruction.specs.Refusals.{predictionRefusal};
 ghost use Rattle.inter_reconstruction.specs.Answers.{predictionNumber};
-ghost use Rattle.fozdrik.specs.Entries.{unknownRefusal, is_yes, presenceKnown, referenceKnown, fieldsKnown, frameKnown, fieldKnown, geometryOf, referenceOf, frameDirectionOf, fieldVectorOf, fieldDirectionOf, frameMotionOf, fieldMotionOf};
+ghost use Rattle.entry_points.specs.Entries.{unknownRefusal, is_yes, presenceKnown, referenceKnown, fieldsKnown, frameKnown, fieldKnown, geometryOf, referenceOf, frameDirectionOf, fieldVectorOf, fieldDirectionOf, frameMotionOf, fieldMotionOf};
 
 use forming_predictions::ReferencePlane;
 use inter_reconstruction::frames::{FrameBuffer, FrameGeometry, ReferenceFrame};
@@ -43,6 +43,7 @@ fn presence_known(present: u32, rest: bool) -> bool
 }
 
 /// A presence, with a format that is read where it is 1.
+#[tactic(auto, unfolding(crate::specs::Entries::referenceKnown))]
 fn reference_known(present: u32, format: u32) -> bool
     ensures { result ≡ referenceKnown present format }
 {
@@ -51,6 +52,7 @@ fn reference_known(present: u32, format: u32) -> bool
 }
 
 /// A presence, with two fields' parities that are read where it is 1.
+#[tactic(auto, unfolding(crate::specs::Entries::fieldsKnown))]
 fn fields_known(present: u32, top_field: u32, bottom_field: u32) -> bool
     ensures { result ≡ fieldsKnown present top_field bottom_field }
 {
@@ -59,6 +61,7 @@ fn fields_known(present: u32, top_field: u32, bottom_field: u32) -> bool
     presence_known(present, top.is_some() & bottom.is_some())
 }
 
+#[tactic(auto, unfolding(crate::specs::Entries::frameKnown))]
 fn frame_known(
     chroma_format: u32,
     forward_present: u32,
@@ -79,6 +82,7 @@ fn frame_known(
                 & (forward.is_some() & backward.is_some())))
 }
 
+#[tactic(auto, unfolding(crate::specs::Entries::fieldKnown))]
 fn field_known(
     chroma_format: u32,
     forward_present: u32,
@@ -112,6 +116,7 @@ pub fn is_yes(number: u32) -> bool
     flag.or_first()
 }
 
+#[tactic(auto, unfolding(crate::specs::Entries::geometryOf))]
 fn geometry_of(width: usize, height: usize, chroma_format: u32) -> FrameGeometry
     ensures { result ≡ geometryOf width height chroma_format }
 {
@@ -123,6 +128,7 @@ fn geometry_of(width: usize, height: usize, chroma_format: u32) -> FrameGeometry
     }
 }
 
+#[tactic(auto, unfolding(crate::specs::Entries::referenceOf))]
 fn reference_of(
     present: u32,
     width: usize,
@@ -157,6 +163,7 @@ fn reference_of(
     })
 }
 
+#[tactic(auto, unfolding(crate::specs::Entries::frameDirectionOf))]
 fn frame_direction_of(present: u32, horizontal: i32, vertical: i32) -> FrameDirection
     ensures { result ≡ frameDirectionOf present horizontal vertical }
 {
@@ -169,6 +176,7 @@ fn frame_direction_of(present: u32, horizontal: i32, vertical: i32) -> FrameDire
     })
 }
 
+#[tactic(auto, unfolding(crate::specs::Entries::fieldVectorOf))]
 fn field_vector_of(field: u32, horizontal: i32, vertical: i32) -> FieldVector
     ensures { result ≡ fieldVectorOf field horizontal vertical }
 {
@@ -182,6 +190,7 @@ fn field_vector_of(field: u32, horizontal: i32, vertical: i32) -> FieldVector
     }
 }
 
+#[tactic(auto, unfolding(crate::specs::Entries::fieldDirectionOf))]
 fn field_direction_of(
     present: u32,
     top_field: u32,
@@ -205,8 +214,7 @@ fn field_direction_of(
 // ---- the calls
 
 /// The prediction of a frame-based macroblock: 0, or the number of the refusal.
-#[unsafe(no_mangle)]
-pub extern "C" fn fozdrik_predict_frame_macroblock(
+pub fn fozdrik_predict_frame_macroblock(
     width: usize,
     height: usize,
     chroma_format: u32,
@@ -303,8 +311,7 @@ pub extern "C" fn fozdrik_predict_frame_macroblock(
 }
 
 /// The prediction of a field-based macroblock: 0, or the number of the refusal.
-#[unsafe(no_mangle)]
-pub extern "C" fn fozdrik_predict_field_macroblock(
+pub fn fozdrik_predict_field_macroblock(
     width: usize,
     height: usize,
     chroma_format: u32,

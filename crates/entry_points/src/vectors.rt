@@ -4,9 +4,9 @@ ghost use Rattle.combine_predictions.specs.Refusals.{or_else, unlessRefused};
 ghost use Rattle.pmv.specs.Predictors.{pair_of};
 ghost use Rattle.pmv.specs.Update.{updateRefusal, updateOutcome, outcomeNumber, updated};
 ghost use Rattle.pmv.specs.Answers.{vectorNumber, updateNumber};
-ghost use Rattle.fozdrik.specs.Layout.{word_of, signed_of, bytes_of, number_at, pairBytes, predictorsOf, predictorBytes, withPair};
-ghost use Rattle.fozdrik.specs.Entries.{unknownRefusal, residualOf, type_of, vectorKnown, updateKnown, indexOf, directionOf, format_of, structureOf, motionVectorOf, context_of, vectorFrom, vectorBytes};
-ghost use Rattle.fozdrik.specs.inner.Outcomes.{outcomeByte};
+ghost use Rattle.entry_points.specs.Layout.{word_of, signed_of, bytes_of, number_at, pairBytes, predictorsOf, predictorBytes, withPair};
+ghost use Rattle.entry_points.specs.Entries.{unknownRefusal, residualOf, type_of, vectorKnown, updateKnown, indexOf, directionOf, format_of, structureOf, motionVectorOf, context_of, vectorFrom, vectorBytes};
+ghost use Rattle.entry_points.specs.inner.Outcomes.{outcomeByte};
 
 use crate::prediction::{NO_MEANING, is_yes};
 use pmv::component::MotionResidual;
@@ -143,6 +143,7 @@ fn store_predictors(p: Pmv, out: &mut [u8])
 
 // ---- what the numbers mean, and whether those that are read have a meaning
 
+#[tactic(auto, unfolding(crate::specs::Entries::residualOf))]
 fn residual_of(present: u32, residual: u8) -> MotionResidual
     ensures { result ≡ residualOf present residual }
 {
@@ -152,6 +153,7 @@ fn residual_of(present: u32, residual: u8) -> MotionResidual
     MotionResidual::Present(residual)
 }
 
+#[tactic(auto, unfolding(crate::specs::Entries::type_of))]
 fn type_of(present: u32, number: u32) -> MotionType
     ensures { result ≡ type_of present number }
 {
@@ -163,6 +165,7 @@ fn type_of(present: u32, number: u32) -> MotionType
 }
 
 /// Whether the numbers that a vector is read with have a meaning, and the buffers their lengths.
+#[tactic(auto, unfolding(crate::specs::Entries::vectorKnown))]
 fn vector_known(
     r: u32,
     s: u32,
@@ -186,6 +189,7 @@ fn vector_known(
 }
 
 /// The same for an update. A motion type that is absent is not read.
+#[tactic(auto, unfolding(crate::specs::Entries::updateKnown))]
 fn update_known(
     picture_structure: u32,
     type_present: u32,
@@ -299,8 +303,7 @@ fn update_in_bytes(ctx: PmvUpdateContext, predictors: &mut [u8], outcome: &mut [
 // ---- the calls
 
 /// A vector's two components against its predictors: 0, or the number of the refusal.
-#[unsafe(no_mangle)]
-pub extern "C" fn fozdrik_reconstruct_motion_vector(
+pub fn fozdrik_reconstruct_motion_vector(
     r: u32,
     s: u32,
     motion_code_horiz: i32,
@@ -358,8 +361,7 @@ pub extern "C" fn fozdrik_reconstruct_motion_vector(
 }
 
 /// The predictors after a macroblock, and the outcome's number in one byte: 0, or the number of the refusal.
-#[unsafe(no_mangle)]
-pub extern "C" fn fozdrik_update_predictors(
+pub fn fozdrik_update_predictors(
     picture_structure: u32,
     prediction_type_present: u32,
     prediction_type: u32,

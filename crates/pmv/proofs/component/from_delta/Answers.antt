@@ -1,0 +1,34 @@
+-- The two tests are those of 5 and 6; a vector that passes them is small, so that the casts and the doubling keep it.
+-- Assumes nothing.
+use Rattle.std.proofs.Common.{arith}
+use Rattle.std.proofs.lemmas.Grind.{common_steps}
+use mir.Syntax.{w32}
+use mir.Val.{SFits}
+use mir.Facts.{to_z-of_z}
+use Rattle.laws.proofs.Bits.{widened}
+use Rattle.laws.proofs.Bounded.{Within, within-fits}
+use Rattle.pmv.specs.Component.{fromDelta, fromDeltaRefusal}
+use Rattle.pmv.proofs.Ranges.{range-fits, in-range-within}
+use Rattle.pmv.proofs.component.from_delta.Goals as goal
+
+pub returns-then-not-in_range : goal.returns-then-not-in_range
+unfolding fromDeltaRefusal
+returns-then-not-in_range c = grind (arith, common_steps, widened)
+
+pub returns-then-not-in_range-2 : goal.returns-then-not-in_range-2
+unfolding fromDeltaRefusal
+returns-then-not-in_range-2 c = grind (arith, common_steps, to_z-of_z, widened)
+
+pub next_predictor-requires : goal.next_predictor-requires
+next_predictor-requires c =
+    let w : Within 4096 c.wrap-v.result = grind (arith, common_steps, to_z-of_z, in-range-within) in
+    let f : SFits w32 c.wrap-v.result = within-fits w (omega arith) in
+    grind (arith, common_steps, to_z-of_z)
+
+pub returns : goal.returns
+unfolding fromDelta fromDeltaRefusal
+returns c =
+    let w : Within 4096 c.wrap-v.result = grind (arith, common_steps, to_z-of_z, in-range-within) in
+    let f : SFits w32 c.wrap-v.result = within-fits w (omega arith) in
+    let r : SFits w32 c.args.b.range = range-fits c.requires in
+    grind (arith, common_steps, to_z-of_z, widened)

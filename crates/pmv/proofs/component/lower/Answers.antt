@@ -1,0 +1,23 @@
+-- A number as far above low as the range is long is past high, and what is left after the subtraction is no larger.
+-- Assumes nothing.
+use Rattle.std.proofs.Common.{arith}
+use Rattle.std.proofs.lemmas.Grind.{common_steps}
+use lib.IntN.{◌-ℤ◌}
+use mir.Syntax.{w64}
+use mir.Val.{SFits}
+use mir.Facts.{to_z-of_z}
+use Rattle.laws.proofs.Bits.{widened}
+use Rattle.laws.proofs.Bounded.{Within, within-sub, within-fits, within_more}
+use Rattle.pmv.proofs.Ranges.{range-fits, past-high}
+use Rattle.pmv.proofs.component.lower.Goals as goal
+
+pub returns-then-b-above_low : goal.returns-then-b-above_low
+returns-then-b-above_low c =
+    let d : Within 4294983680 (c.args.v -ℤ c.args.b.range) = within-sub c.requires.1 c.requires.0.range in
+    let f : SFits w64 (c.args.v -ℤ c.args.b.range) = within-fits d (omega arith) in
+    grind (arith, common_steps, to_z-of_z, widened, range-fits, past-high)
+
+pub returns : goal.returns
+returns c =
+    let d : Within 4294983680 c.args.v = within_more c.requires.1 (omega arith) in
+    grind (arith, common_steps, to_z-of_z, widened, range-fits, past-high)
