@@ -24,16 +24,6 @@ number_of {r} n v e = ap sampleNumber e ∙ number-sample n v
 pub value_of : {r : Sampled} (n v : ℕ) → r ≡ sampleAnswer n v → sampleValue r ≡ valueUnless (sampleNumber r) v
 value_of {r} n v e = ap sampleValue e ∙ value-sample n v ∙ ap (λ (k : ℕ). valueUnless k v) (sym (number_of n v e))
 
--- a refusal has a number, and no sample
-pub refused-sample : (n v : ℕ) → (n ≡ 0 → ⊥) → Refused n ≡ sampleAnswer n v
-refused-sample zero v h = absurd (h refl)
-refused-sample (suc n) v h = refl
-
--- a sample that is given where the number is 0
-pub given-sample : (n u v : ℕ) → 0 ≡ n → u ≡ v → Sample u ≡ sampleAnswer n v
-given-sample zero u v e f = ap Sample f
-given-sample (suc n) u v e f = absurd (omega arith)
-
 -- no answer is a refusal with number 0
 pub never-refused-0 : (n v : ℕ) → sampleAnswer n v ≡ Refused 0 → ⊥
 never-refused-0 zero v e = let z : ◌≡◌ {A = ℕ} 0 1 = cc in omega arith

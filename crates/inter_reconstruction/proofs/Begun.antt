@@ -16,10 +16,6 @@ pub record Begun (front d o : List ℕ) : Type 0 where
   pub within : length front ≤ length d
   pub is : o ≡ front ++ drop (length front) d
 
-pub begun-length : {front d o : List ℕ} → Begun front d o → length o ≡ length d
-begun-length {front} {d} {o} h =
-    omega (arith, ap length h.is, length-append front (drop (length front) d), length-drop (length front) d, h.within)
-
 -- after a call wrote ys to &mut d[0..m]
 pub begun_first : (m : ℕ) (ys d : List ℕ) → length ys ≡ m → m ≤ length d → Begun ys d (put_mid 0 (m - 0) d ys)
 begun_first m ys d f l = let k : m - 0 ≡ m = omega arith in record { within = omega arith; is = rw (k, f) }
@@ -65,17 +61,8 @@ begun-rest {front} {d} {o} n ys h e f =
 abbrev pub blank : ℕ → List ℕ
 blank n = replicate n 0
 
-pub prefix-length : (n : ℕ) (l : List ℕ) → n ≤ length l → n ≡ length (take n l)
-prefix-length n l h = sym (length-take-le n l h)
-
 pub front-is : (n : ℕ) (ys rest : List ℕ) → length ys ≡ n → take n (ys ++ rest) ≡ ys
 front-is n ys rest e = take_at ys rest n e
-
-pub front-within : (n : ℕ) (ys rest : List ℕ) → length ys ≡ n → n ≤ length (ys ++ rest)
-front-within n ys rest e = omega (arith, length-append ys rest)
-
-pub front_length : (n : ℕ) (ys rest : List ℕ) → length ys ≡ n → n ≡ length (take n (ys ++ rest))
-front_length n ys rest e = sym (ap length (front-is n ys rest e) ∙ e)
 
 -- ---- a part of a slice, as what its reads tabulate
 pub part-tab : (s : List ℕ) (a n : ℕ) → a + n ≤ length s → take (a + n - a) (drop a s) ≡ tabulate n (λ (k : ℕ). get_or s (a + k) 0)

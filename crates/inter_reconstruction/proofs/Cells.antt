@@ -64,9 +64,6 @@ module _ (f : ChromaFormat) (w h : ℕ) (ew : w ≡ blockWidth f cb) (eh : h ≡
   sides : ChromaSides w h
   sides = rw (ew, eh) (chroma-sides f)
 
-  pub chroma-small : w * h ≤ 256
-  chroma-small = mul-le-mul sides.wide sides.high
-
   pub chroma-bytes : w * h ≡ blockBytes f cb
   chroma-bytes = rw (ew, eh)
 
@@ -96,15 +93,7 @@ module _ (f : ChromaFormat) (w h : ℕ) (ew : w ≡ blockWidth f cb) (eh : h ≡
           count = e ∙ sym chroma-bytes;
         }
 
-    pub chroma-at : (m : ℕ) → m + 256 ≡ n → HalvesAt (col * w) (row * h) w h m
-    chroma-at m e = record { one = chroma-block (w * h) chroma-bytes; count = omega (arith, chroma-total) }
-
   -- ---- the bytes
-  pub chroma-part : (read : PlaneReading) (d v : DirectionMotion) (col row : ℕ) (o : List ℕ)
-      → v ≡ chromaMotion f d
-      → o ≡ rectangle w h (directionSample rounded read v) (col * w) (row * h)
-      → o ≡ part f cb (directionSample rounded read (chromaMotion f d)) col row
-  chroma-part read d v col row o ev eo = eo ∙ rw (ew, eh, ev)
 
   pub parts_are : (forward backward : ColourComponent → PlaneReading) (u v : Uses) (col row : ℕ) (a b : List ℕ)
       → v ≡ chromaUses f u

@@ -32,13 +32,6 @@ use Rattle.inter_reconstruction.specs.Refusals.{cellTooFar, tooFar, cellRefusal,
 use Rattle.inter_reconstruction.specs.Answers.{predictionNumber, predictionDirections, directionsOf, accepted, predictionAnswer}
 use Rattle.inter_reconstruction.specs.inner.Planes.{FrameFits, CellFits, directed, missingIn, destinationRefusal}
 
--- `if !f(..)`, taken and left, where f's result x is the definition's y
-pub was-false : (x y : Bool) → x ≡ y → not x ≡ true → y ≡ false
-was-false x y e t = sym e ∙ not_taken x t
-
-pub was-true : (x y : Bool) → x ≡ y → not x ≡ false → y ≡ true
-was-true x y e t = sym e ∙ not_left x t
-
 neither : (x y : Bool) → (x || y) ≡ false → (x ≡ false) × (y ≡ false)
 neither true y e = let z : ◌≡◌ {A = ℕ} 0 1 = cc in absurd (omega arith)
 neither false y e = (refl, e)
@@ -69,12 +62,6 @@ bytes-are f w h ew eh = rw (ew, eh)
 pub answer-number : (n : ℕ) (a : Accepted) → predictionNumber (predictionAnswer n a) ≡ n
 answer-number zero a = refl
 answer-number (suc n) a = refl
-
--- an accepted answer tells the directions that were used
-pub directions-told : (n : ℕ) (u : Uses) (r : MacroblockPrediction)
-    → r ≡ predictionAnswer n (accepted u) → predictionNumber r ≡ 0 → predictionDirections r ≡ Some (directionsOf u)
-directions-told zero u r e z = ap predictionDirections e
-directions-told (suc n) u r e z = absurd (omega (arith, sym (ap predictionNumber e) ∙ z))
 
 -- a buffer that was written by the number is written by the answer
 pub by_answer : {A : Type 0} (r : MacroblockPrediction) (n : ℕ) (t : Accepted) (o new old : A)

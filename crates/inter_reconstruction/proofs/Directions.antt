@@ -17,12 +17,6 @@ use Rattle.inter_reconstruction.specs.declared.motion.DirectionMotion.{Direction
 use Rattle.inter_reconstruction.specs.declared.motion.OptionDirectionMotion.{OptionDirectionMotion}
 use Rattle.inter_reconstruction.specs.declared.motion.OptionDirectionMotion.TheVariants.{None, Some}
 
--- without forward motion the references change nothing
-pub without-forward : (still : DirectionMotion) (e : OptionDirectionMotion) (forward backward : Bool)
-    → wanted still None e ≡ uses still None e forward backward
-without-forward still None forward backward = refl
-without-forward still (Some e) forward backward = refl
-
 -- backward motion, and no forward motion
 abbrev pub BackwardAlone : OptionDirectionMotion → OptionDirectionMotion → Type 0
 BackwardAlone None None = ⊥

@@ -26,9 +26,6 @@ use Rattle.inter_reconstruction.specs.inner.Placing.{Room, Placeable}
 use Rattle.inter_reconstruction.proofs.Checks.{bytes-are}
 
 -- ---- answers
-pub refused-placing : (n : ℕ) → (n ≡ 0 → ⊥) → Refused n ≡ placingAnswer n
-refused-placing zero h = absurd (h refl)
-refused-placing (suc n) h = refl
 
 -- what a refusal leaves
 pub kept : {A : Type 0} (n : ℕ) (new old : A) → (n ≡ 0 → ⊥) → old ≡ unlessRefused n new old
@@ -36,25 +33,6 @@ kept zero new old h = absurd (h refl)
 kept (suc n) new old h = refl
 
 -- ---- tests
-
--- two tests that are the definition's
-pub tests-are : (x y a b : Bool) → x ≡ a → y ≡ b → (x && y) ≡ (a && b)
-tests-are x y a b e f = rw (e, f)
-
--- nothing is refused
-pub placeable : (p : FrameBuffer) (n : ColourComponent → ℕ) (bytes col row : ℕ) → placingRefusal p n bytes col row ≡ 0 → Placeable p n bytes col row
-placeable p n bytes col row e =
-    let a = pictureFits p n in
-    let b = wellFormed p && cellInside p.geometry col row in
-    let d = eqb bytes (macroblockBytes p.geometry.chroma_format) in
-    let rest = none-second (cause (not a) 14) (or_else (cause (not b) 20) (cause (not d) 18)) e in
-    let t = both (wellFormed p) (cellInside p.geometry col row) (no-cause b 20 (omega arith) (none_first (cause (not b) 20) (cause (not d) 18) rest)) in
-    record {
-      fits = no-cause a 14 (omega arith) (none_first (cause (not a) 14) (or_else (cause (not b) 20) (cause (not d) 18)) e);
-      whole = t.0;
-      cell = t.1;
-      count = eqb-true bytes (macroblockBytes p.geometry.chroma_format) (no-cause d 18 (omega arith) (none-second (cause (not b) 20) (cause (not d) 18) rest));
-    }
 
 every_one : (t : ColourComponent → Bool) → everyComponent t ≡ true → (c : ColourComponent) → t c ≡ true
 every_one t e luma = (both (t luma) (t cb && t cr) e).0

@@ -102,28 +102,6 @@ field-row-in h r l = go (r % 2) refl
     go (suc zero) e = omega (arith, l)
     go (suc (suc m)) e = absurd (omega arith)
 
--- a block in the domain has 256 samples at most
-pub block-small : {x y w h n : ℕ} → BlockAt x y w h n → w * h ≤ 256
-block-small b = mul-le-mul b.wide b.high
-
-pub with-count : {x y w h n : ℕ} (m : ℕ) → BlockAt x y w h n → m ≡ w * h → BlockAt x y w h m
-with-count m b e =
-    record { left = b.left; top = b.top; some = b.some; wide = b.wide; eights = b.eights; tall = b.tall; high = b.high; count = e }
-
--- half its rows are a block of a field's lines
-pub half-block : {x y w h n : ℕ} → BlockAt x y w h n → FieldRows y h → BlockAt x (y / 2) w (h / 2) (w * (h / 2))
-half-block b f =
-    record {
-      left = b.left;
-      top = omega (arith, b.top);
-      some = b.some;
-      wide = b.wide;
-      eights = b.eights;
-      tall = omega (arith, b.tall, f.even);
-      high = omega (arith, b.high);
-      count = refl;
-    }
-
 pub twice_half : (w h : ℕ) → h % 2 ≡ 0 → w * h ≡ w * (h / 2 + h / 2)
 twice_half w h e = ap (λ (k : ℕ). w * k) (omega arith)
 
@@ -208,11 +186,3 @@ pub forward-most : (d : PredictionDirection) (n : ℕ) → forwardBytes d n ≤ 
 forward-most Forward n = omega arith
 forward-most Backward n = omega arith
 forward-most Skipped n = omega arith
-
-pub chosen_is : (d : PredictionDirection) (f b : Bor (List ℕ)) (l : List ℕ)
-    → f.now ≡ take (forwardBytes d (length l)) l
-    → b.now ≡ take (length l - forwardBytes d (length l)) l
-    → (chosen d f b).now ≡ l
-chosen_is Forward f b l e g = e ∙ take-length l
-chosen_is Backward f b l e g = g ∙ rw (sub-zero (length l)) (take-length l)
-chosen_is Skipped f b l e g = e ∙ take-length l

@@ -147,9 +147,3 @@ placed_row {x} {y} {w} {h} {width} {r} {block} {d} {o} {ys} i m t e =
         ∙ ap (λ (l : List ℕ). stored (placeAt width w x y) l d) (take-add (r * w) w block)
         ∙ stored-append (placeAt width w x y) (take (r * w) block) (take w (drop (r * w) block)) d
         ∙ ap (λ (c : ℕ). stored (λ (k : ℕ). placeAt width w x y (c + k)) (take w (drop (r * w) block)) (stored (placeAt width w x y) (take (r * w) block) d)) front)
-
-pub placed-all : {x y w h width r : ℕ} {block d o : List ℕ}
-    → RowsPlaced x y w width r block d o → length block ≡ w * h → r ≡ h → o ≡ stored (placeAt width w x y) block d
-placed-all {x} {y} {w} {h} {width} {r} {block} {d} {o} i c e =
-    let all : r * w ≡ length block = omega (arith, ap (λ (k : ℕ). k * w) e, mul_comm h w) in
-    i.is ∙ ap (λ (l : List ℕ). stored (placeAt width w x y) l d) (ap (λ (k : ℕ). take k block) all ∙ take-length block)

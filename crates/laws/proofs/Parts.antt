@@ -14,7 +14,3 @@ part_length s f e h = length-take-le (e - f) (drop f s) (omega (arith, length-dr
 -- what a read in it gives
 pub part_at : (s : List ℕ) (f e i : ℕ) → f + i < e → get_or (take (e - f) (drop f s)) i 0 ≡ get_or s (f + i) 0
 part_at s f e i h = get_or-take (e - f) (drop f s) i 0 (omega arith) ∙ get_or-drop f s i 0
-
--- the part that goes to the end
-pub part-rest : (s : List ℕ) (f : ℕ) → take (length s - f) (drop f s) ≡ drop f s
-part-rest s f = take_all (length s - f) (drop f s) (omega (arith, length-drop f s))

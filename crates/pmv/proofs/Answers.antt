@@ -74,25 +74,7 @@ pub delta-all : (r : ComputedDelta) (n : ℕ) (v : ℤ)
     → (r ≡ deltaAnswer n v) × ((deltaNumber r ≡ n) × (deltaValue r ≡ valueUnless (deltaNumber r) v))
 delta-all r n v e = (e, promised deltaAnswer deltaNumber deltaValue delta-parts r n v e)
 
-pub delta-no : (n m : ℕ) (d : ℤ) → n ≡ m → (n ≡ 0 → ⊥) → D.Refused n ≡ deltaAnswer m d
-delta-no zero m d e h = absurd (h refl)
-delta-no (suc n) m d e h = rw (← e)
-
-pub delta-refused : (m : ℕ) (d : ℤ) (n : ℕ) → D.Refused n ≡ deltaAnswer m d → (m ≡ n) × (m ≡ 0 → ⊥)
-delta-refused m d n e = refused deltaAnswer deltaNumber deltaValue delta-parts (D.Refused n) n m d e refl refl
-
-pub delta-given : (m : ℕ) (d v : ℤ) → D.Delta v ≡ deltaAnswer m d → (m ≡ 0) × (v ≡ d)
-delta-given m d v e = given deltaAnswer deltaNumber deltaValue delta-parts (D.Delta v) m d v e refl
-
 -- ---- ranges
-range-parts : (n : ℕ) (v : VectorRange) → (rangeNumber (rangeAnswer n v) ≡ n) × (rangeValue (rangeAnswer n v) ≡ valueUnless n v)
-range-parts zero v = (refl, refl)
-range-parts (suc n) v = (refl, refl)
-
-pub range_all : (r : FoundRange) (n : ℕ) (v : VectorRange)
-    → r ≡ rangeAnswer n v
-    → (r ≡ rangeAnswer n v) × ((rangeNumber r ≡ n) × (rangeValue r ≡ valueUnless (rangeNumber r) v))
-range_all r n v e = (e, promised rangeAnswer rangeNumber rangeValue range-parts r n v e)
 
 -- ---- components
 component-parts : (n : ℕ) (v : ReconstructedComponent)
@@ -104,11 +86,6 @@ pub component-all : (r : Reconstructed) (n : ℕ) (v : ReconstructedComponent)
     → r ≡ reconstructedAnswer n v
     → (r ≡ reconstructedAnswer n v) × ((reconstructedNumber r ≡ n) × (reconstructedValue r ≡ valueUnless (reconstructedNumber r) v))
 component-all r n v e = (e, promised reconstructedAnswer reconstructedNumber reconstructedValue component-parts r n v e)
-
--- one whose delta was refused
-pub component-no : (n m k : ℕ) (v : ReconstructedComponent) → m ≡ n → (m ≡ 0 → ⊥) → C.Refused n ≡ reconstructedAnswer (or_else m k) v
-component-no n zero k v e h = absurd (h refl)
-component-no n (suc m) k v e h = rw (← e)
 
 pub component-refused : (n m : ℕ) (v : ReconstructedComponent) → C.Refused n ≡ reconstructedAnswer m v → (m ≡ n) × (m ≡ 0 → ⊥)
 component-refused n m v e =

@@ -27,9 +27,6 @@ pub f-code-range : (k : ℕ) → fCodeRefusal k ≡ 0 → (1 ≤ k) × (k ≤ 9)
 unfolding fCodeFits
 f-code-range k e = range 1 9 k (no-cause (leb 1 k && leb k 9) 1 (omega arith) e)
 
-pub f-code-fits : (k : ℕ) → fCodeFits k ≡ true → fCodeRefusal k ≡ 0
-f-code-fits k e = rw e
-
 pub scale-range : (k : ℕ) → k ≤ 9 → (1 ≤ scale k) × (scale k ≤ 256)
 unfolding scale
 scale-range k h = (pow_pos (k - 1), pow-le-pow_right {n = 2} (omega arith) {i = k - 1} {j = 8} (omega arith))
@@ -43,10 +40,6 @@ code-within z e =
     let b = le_yes z (pos 16) t.1 in
     record { above = omega arith; below = omega arith }
 
-pub abs-within : {n : ℕ} (z : ℤ) → Within n z → nat_abs z ≤ n
-abs-within (pos a) h = omega (arith, h.above)
-abs-within (negsuc a) h = omega (arith, h.below)
-
 -- the code's test for 0 goes by the bits
 zero_bits : (z : ℤ) → SFits w32 z → eqb (of_z w32 z) 0 ≡ eqb (nat_abs z) 0
 zero_bits (pos n) f = refl
@@ -57,22 +50,7 @@ pub plain-bits : (f : ℕ) (z : ℤ) → SFits w32 z → (eqb f 1 || eqb (of_z w
 unfolding is_plain
 plain-bits f z h = rw (zero_bits z h)
 
-pub plain_f : (f : ℕ) (z : ℤ) → f ≡ 1 → is_plain f z ≡ true
-unfolding is_plain
-plain_f f z e = rw e
-
 -- ---- delta
-pub delta-plain : (f : ℕ) (z : ℤ) (n : ℕ) → is_plain f z ≡ true → delta f z n ≡ z
-unfolding delta
-delta-plain f z n e = rw e
-
-pub delta-scaled : (f : ℕ) (z : ℤ) (n : ℕ) → is_plain f z ≡ false → delta f z n ≡ with_sign z (magnitude f z n)
-unfolding delta
-delta-scaled f z n e = rw e
-
--- a plain code without a residual
-pub without-plain : (f : ℕ) (z : ℤ) → is_plain f z ≡ true → D.Delta z ≡ deltaAnswer (residualRefusal (is_plain f z) Absent) (delta f z 0)
-without-plain f z e = rw (delta-plain f z 0 e, e)
 
 or-none : (a b : Bool) → (a || b) ≡ false → b ≡ false
 or-none true b e = let z : ◌≡◌ {A = ℕ} 0 1 = cc in absurd (omega arith)
@@ -83,33 +61,4 @@ pub not_plain : (f : ℕ) (z : ℤ) → is_plain f z ≡ false → 1 ≤ nat_abs
 unfolding is_plain
 not_plain f z e = let h = eqb-false (nat_abs z) 0 (or-none (eqb f 1) (eqb (nat_abs z) 0) e) in omega arith
 
-pub product_le : (m f : ℕ) → m ≤ 16 → f ≤ 256 → (m - 1) * f ≤ 3840
-product_le m f h k = let p : m - 1 ≤ 15 = omega arith in mul-le-mul p k
-
 -- ---- when each number is given
-module _ (f : ℕ) (z : ℤ) (r : MotionResidual) where
-  pub refused-2 : codeFits z ≡ false → 2 ≡ codeRefusal f z r
-  unfolding codeRefusal
-  refused-2 e = rw e
-
-  pub refused-residual : codeFits z ≡ true → residualRefusal (is_plain f z) r ≡ codeRefusal f z r
-  unfolding codeRefusal
-  refused-residual e = rw e
-
-module _ (k : ℕ) (z : ℤ) (r : MotionResidual) where
-  pub refused-1 : fCodeFits k ≡ false → 1 ≡ deltaRefusal k z r
-  unfolding deltaRefusal
-  refused-1 e = rw e
-
-  pub refused-code : fCodeFits k ≡ true → codeRefusal (scale k) z r ≡ deltaRefusal k z r
-  unfolding deltaRefusal
-  refused-code e = rw e
-
-  -- where neither is given, the residual decides
-  pub accepted-both : fCodeFits k ≡ true → codeFits z ≡ true → residualRefusal (is_plain (scale k) z) r ≡ deltaRefusal k z r
-  accepted-both e g = refused-residual (scale k) z r g ∙ refused-code e
-
-  -- where no number is
-  pub accepted-f-code : deltaRefusal k z r ≡ 0 → fCodeRefusal k ≡ 0
-  unfolding deltaRefusal
-  accepted-f-code e = none_first (fCodeRefusal k) (codeRefusal (scale k) z r) e

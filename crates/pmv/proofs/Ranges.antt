@@ -51,13 +51,6 @@ high_fits s = within-fits s.high (omega arith)
 pub range-fits : {b : VectorRange} → Small b → SFits w32 b.range
 range-fits s = within-fits s.range (omega arith)
 
-pub sum-within : {x y : ℤ} → SFits w32 x → SFits w32 y → Within 4294967296 (x +ℤ y)
-sum-within f g = within-add (fits-within f) (fits-within g)
-
--- an i32 is within what a sum of two is after its wrap
-pub fits-wide : {x : ℤ} → SFits w32 x → Within 4294983680 x
-fits-wide {x} f = let w : Within 2147483648 x = fits-within f in within_more w (omega arith)
-
 -- high + 1 = low + range, as a fact of natural numbers
 high_is : {b : VectorRange} → Small b
     → zp b.high + 1 + zn b.low + zn b.range ≡ zp b.low + zp b.range + zn b.high
@@ -107,32 +100,4 @@ in-range-within {b} v s e =
     let h = s.high.above in
     record { above = omega arith; below = omega arith }
 
-pub predictor-fits : (h : Bool) {v : ℤ} → Within 4096 v → SFits w32 (newPredictor h v)
-predictor-fits true w = within-fits (within-mul 2 w) (omega arith)
-predictor-fits false w = within-fits w (omega arith)
-
 -- ---- when each number is given
-module _ (b : VectorRange) (h : Bool) (p d : ℤ) where
-  pub from-delta-5 : in_range b d ≡ false → C.Refused 5 ≡ reconstructedAnswer (fromDeltaRefusal b h p d) (fromDelta b h p d)
-  unfolding fromDeltaRefusal
-  from-delta-5 e = rw e
-
-  pub from-delta-6 : in_range b d ≡ true → in_range b (vectorOf b h p d) ≡ false
-      → C.Refused 6 ≡ reconstructedAnswer (fromDeltaRefusal b h p d) (fromDelta b h p d)
-  unfolding fromDeltaRefusal
-  from-delta-6 e f = rw (e, f)
-
-  pub from-delta-accepted : in_range b d ≡ true → in_range b (vectorOf b h p d) ≡ true
-      → C.Component (fromDelta b h p d) ≡ reconstructedAnswer (fromDeltaRefusal b h p d) (fromDelta b h p d)
-  unfolding fromDeltaRefusal
-  from-delta-accepted e f = rw (e, f)
-
-  -- the four numbers
-  pub from-delta-is : {v n x y : ℤ}
-      → v ≡ vectorOf b h p d
-      → n ≡ newPredictor h (vectorOf b h p d)
-      → x ≡ d
-      → y ≡ b.range
-      → ◌≡◌ {A = ReconstructedComponent} (record { vector_prime = v; new_pmv = n; delta = x; range = y }) (fromDelta b h p d)
-  unfolding fromDelta
-  from-delta-is e f g k = λ i. record { vector_prime = e i; new_pmv = f i; delta = g i; range = k i }
