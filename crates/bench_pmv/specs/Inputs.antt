@@ -2,22 +2,17 @@
 use Rattle.std.specs.Prelude.{Bool, not, cond, List, [], ◌∷◌, ℕ, ◌+◌, eqb, ltb, ℤ}
 use Rattle.pmv.specs.Update.{outcomeNumber}
 use Rattle.pmv.specs.declared.kinds.PictureStructure.{PictureStructure}
-use Rattle.pmv.specs.declared.kinds.PictureStructure.TheVariants as PictureStructure
 use Rattle.pmv.specs.declared.kinds.PredictionType.TheVariants.{FieldBased, FrameBased, SixteenByEight, DualPrime}
 use Rattle.pmv.specs.declared.kinds.MotionType.{MotionType}
-use Rattle.pmv.specs.declared.kinds.MotionType.TheVariants as MotionType
 use Rattle.pmv.specs.declared.kinds.MvFormat.{MvFormat}
-use Rattle.pmv.specs.declared.kinds.MvFormat.TheVariants as MvFormat
 use Rattle.pmv.specs.declared.kinds.VectorIndex.{VectorIndex}
 use Rattle.pmv.specs.declared.kinds.VectorIndex.TheVariants.{First, Second}
 use Rattle.pmv.specs.declared.kinds.Direction.{Direction}
 use Rattle.pmv.specs.declared.kinds.Direction.TheVariants.{Forward, Backward}
 use Rattle.pmv.specs.declared.component.MotionResidual.{MotionResidual}
-use Rattle.pmv.specs.declared.component.MotionResidual.TheVariants as MotionResidual
 use Rattle.pmv.specs.declared.predictors.Pmv.{Pmv}
 use Rattle.pmv.specs.declared.update.PmvUpdateContext.{PmvUpdateContext}
 use Rattle.pmv.specs.declared.update.Updated.{Updated}
-use Rattle.pmv.specs.declared.update.Updated.TheVariants as Updated
 use Rattle.pmv.specs.declared.vector.MotionVector.{MotionVector}
 use Rattle.pmv.specs.declared.vector.ReconstructedVector.{ReconstructedVector}
 use Rattle.pmv.specs.declared.vector.ReconstructedVector.TheVariants as Vec

@@ -1,22 +1,14 @@
 -- Laws of decimal numbers.
 -- Assumes nothing.
-use mathlib.Core.Path.{◌≡◌, refl}
-use mathlib.Core.Bool.{true, false}
-use mathlib.Core.List.{List, [], ◌∷◌}
-use Prim.Native.Nat.{ℕ, ◌+◌, ◌*◌, ◌-◌, ◌^◌, ◌≤◌, ◌<◌}
+use mathlib.Core.Path.{◌≡◌}
+use mathlib.Core.List.{List}
+use Prim.Native.Nat.{ℕ, ◌+◌, ◌*◌, ◌^◌, ◌≤◌, ◌<◌}
 use native.Mathlib.Nat.{pow-suc, pow-le-pow_right}
 use native.Mathlib.Numerals.{add-one}
 use native.Mathlib.Omega.{arith}
-use lib.IntN.{ℤ, pos, negsuc}
 use lib.ListN.{length, get_or, drop, drop_of_length-le}
 use lib.Seq.{drop-cons}
-use borrow.Author.Tests.{lt-ltb, le-ltb, le-leb, lt-leb, eq-eqb, ne_eqb}
-use Rattle.laws.proofs.Signed.{zp}
-use Rattle.lists.specs.declared.Class.TheVariants.{Digit, Hex}
-use Rattle.lists.specs.Text.{inClass, leading}
-use Rattle.lists.specs.Numbers.{digitOf, decimal, isNatural, is_number, number_of, nat_of}
-use Rattle.lists.specs.ByteStrings.{hexOf}
-use Rattle.lists.proofs.Runs.{digit-range, letter-range}
+use Rattle.lists.specs.Numbers.{digitOf, decimal}
 
 -- one digit more
 pub decimal-more : (v : ℕ) (w : List ℕ) (i : ℕ)

@@ -1,4 +1,4 @@
--- Laws of classes of bytes and of runs.
+-- Laws of runs.
 -- Assumes nothing.
 use mathlib.Core.Path.{◌≡◌}
 use mathlib.Core.Bool.{Bool, true, false}
@@ -7,16 +7,7 @@ use Prim.Native.Nat.{ℕ, suc, ◌+◌, ◌≤◌, ◌<◌}
 use native.Mathlib.Numerals.{add-one}
 use lib.ListN.{length, get_or, drop, drop_of_length-le}
 use lib.Seq.{drop-cons}
-use Rattle.laws.proofs.Tests.{range}
-use Rattle.lists.specs.declared.Class.TheVariants.{Digit, Hex}
-use Rattle.lists.specs.Text.{inClass, leading}
-
-pub digit-range : (b : ℕ) → inClass Digit b ≡ true → (48 ≤ b) × (b ≤ 57)
-digit-range b e = range 48 57 b e
-
--- a hexadecimal digit that is no decimal one
-pub letter-range : (b : ℕ) → inClass Digit b ≡ false → inClass Hex b ≡ true → (97 ≤ b) × (b ≤ 102)
-letter-range b d e = range 97 102 b (rw d at e)
+use Rattle.lists.specs.Text.{leading}
 
 -- a run, by the element at its first place
 module _ (p : ℕ → Bool) (s : List ℕ) (i : ℕ) where
