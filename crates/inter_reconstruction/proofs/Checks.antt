@@ -68,30 +68,37 @@ pub by_answer : {A : Type 0} (r : MacroblockPrediction) (n : ℕ) (t : Accepted)
     → r ≡ predictionAnswer n t → o ≡ unlessRefused n new old → o ≡ unlessRefused (predictionNumber r) new old
 by_answer r n t o new old e w = w ∙ rw (e, answer-number n t)
 
--- ---- one direction
+-- ---- what is written
 
-module _ (f : ChromaFormat) (forward backward : ColourComponent → PlaneReading) (d : DirectionMotion) (col row : ℕ) where
-  pub forward-alone : directed f forward d col row ≡ predicted rounded f forward backward (Forward d) col row
-  unfolding macroblock rectangle usedSample
-  forward-alone = refl
-
-  pub backward-alone : directed f backward d col row ≡ predicted rounded f forward backward (Backward d) col row
-  unfolding macroblock rectangle usedSample
-  backward-alone = refl
-
-  -- and so a buffer that was written from one direction, by the number, is written by the answer
-  pub forward-written : (u : Uses) (r : MacroblockPrediction) (n : ℕ) (t : Accepted) (o old : List ℕ)
-      → Forward d ≡ u
+module _ (f : ChromaFormat) (forward backward : ColourComponent → PlaneReading) (col row : ℕ) where
+  -- a buffer that was written by the number, from the directions v, is written by the answer, from the directions u, which are these
+  pub written : (u v : Uses) (r : MacroblockPrediction) (n : ℕ) (t : Accepted) (o old : List ℕ)
+      → v ≡ u
       → r ≡ predictionAnswer n t
-      → o ≡ unlessRefused n (directed f forward d col row) old
+      → o ≡ unlessRefused n (predicted rounded f forward backward v col row) old
       → o ≡ unlessRefused (predictionNumber r) (predicted rounded f forward backward u col row) old
-  forward-written u r n t o old e a w =
-      rw (← e) (by_answer r n t o _ old a (w ∙ ap (λ (z : List ℕ). unlessRefused n z old) forward-alone))
+  written u v r n t o old e a w = rw (← e) (by_answer r n t o _ old a w)
 
-  pub backward-written : (u : Uses) (r : MacroblockPrediction) (n : ℕ) (t : Accepted) (o old : List ℕ)
-      → Backward d ≡ u
-      → r ≡ predictionAnswer n t
-      → o ≡ unlessRefused n (directed f backward d col row) old
-      → o ≡ unlessRefused (predictionNumber r) (predicted rounded f forward backward u col row) old
-  backward-written u r n t o old e a w =
-      rw (← e) (by_answer r n t o _ old a (w ∙ ap (λ (z : List ℕ). unlessRefused n z old) backward-alone))
+  module _ (d : DirectionMotion) where
+    pub forward-alone : directed f forward d col row ≡ predicted rounded f forward backward (Forward d) col row
+    unfolding macroblock rectangle usedSample
+    forward-alone = refl
+
+    pub backward-alone : directed f backward d col row ≡ predicted rounded f forward backward (Backward d) col row
+    unfolding macroblock rectangle usedSample
+    backward-alone = refl
+
+    -- so it is where it was written from one direction
+    pub forward-written : (u : Uses) (r : MacroblockPrediction) (n : ℕ) (t : Accepted) (o old : List ℕ)
+        → Forward d ≡ u
+        → r ≡ predictionAnswer n t
+        → o ≡ unlessRefused n (directed f forward d col row) old
+        → o ≡ unlessRefused (predictionNumber r) (predicted rounded f forward backward u col row) old
+    forward-written u r n t o old e a w = written u (Forward d) r n t o old e a (w ∙ ap (λ (z : List ℕ). unlessRefused n z old) forward-alone)
+
+    pub backward-written : (u : Uses) (r : MacroblockPrediction) (n : ℕ) (t : Accepted) (o old : List ℕ)
+        → Backward d ≡ u
+        → r ≡ predictionAnswer n t
+        → o ≡ unlessRefused n (directed f backward d col row) old
+        → o ≡ unlessRefused (predictionNumber r) (predicted rounded f forward backward u col row) old
+    backward-written u r n t o old e a w = written u (Backward d) r n t o old e a (w ∙ ap (λ (z : List ℕ). unlessRefused n z old) backward-alone)

@@ -1,27 +1,26 @@
 -- Laws of the directions that are used: what the presence of the references changes, and what it does not.
 -- Assumes nothing.
-use mathlib.Core.Path.{◌≡◌, refl}
-use mathlib.Core.Bool.{Bool, true, false, not}
+use mathlib.Core.Path.{◌≡◌, refl, sym, ap, ◌∙◌}
+use mathlib.Core.Bool.{Bool, true, false, not, ◌||◌}
+use mathlib.Core.List.{List}
 use Prim.Native.Nat.{ℕ, zero, suc, ◌≤◌}
 use native.Mathlib.Omega.{arith}
-use Rattle.combine_predictions.specs.Refusals.{cause, or_else}
-use Rattle.inter_reconstruction.specs.Components.{ColourComponent}
+use lib.Dec.{eqb}
+use Rattle.combine_predictions.specs.Refusals.{wrongLength, cause, or_else, unlessRefused}
+use Rattle.inter_reconstruction.specs.Components.{ColourComponent, macroblockBytes}
 use Rattle.inter_reconstruction.specs.Frames.{isPresent}
-use Rattle.inter_reconstruction.specs.Motion.{wanted, uses}
-use Rattle.inter_reconstruction.specs.Refusals.{sameGeometry, planesFit, geometryRefusal, planesRefusal, referencesRefusal}
+use Rattle.inter_reconstruction.specs.Motion.{remaining, BackwardAlone}
+use Rattle.inter_reconstruction.specs.Refusals.{cellTooFar, tooFar, cellRefusal, sameGeometry, planesFit, geometryRefusal, planesRefusal, referencesRefusal, predictionRefusal}
+use Rattle.inter_reconstruction.specs.Answers.{accepted, predictionAnswer, predictionNumber}
 use Rattle.inter_reconstruction.specs.declared.frames.FrameGeometry.{FrameGeometry}
 use Rattle.inter_reconstruction.specs.declared.frames.FrameBuffer.{FrameBuffer}
 use Rattle.inter_reconstruction.specs.declared.frames.ReferenceFrame.{ReferenceFrame}
 use Rattle.inter_reconstruction.specs.declared.frames.ReferenceFrame.TheVariants.{Absent, Present}
 use Rattle.inter_reconstruction.specs.declared.motion.DirectionMotion.{DirectionMotion}
-use Rattle.inter_reconstruction.specs.declared.motion.OptionDirectionMotion.{OptionDirectionMotion}
-use Rattle.inter_reconstruction.specs.declared.motion.OptionDirectionMotion.TheVariants.{None, Some}
-
--- backward motion, and no forward motion
-abbrev pub BackwardAlone : OptionDirectionMotion → OptionDirectionMotion → Type 0
-BackwardAlone None None = ⊥
-BackwardAlone None (Some e) = Unit {0}
-BackwardAlone (Some d) e = ⊥
+use Rattle.inter_reconstruction.specs.declared.motion.Uses.{Uses}
+use Rattle.inter_reconstruction.specs.declared.motion.Uses.TheVariants.{Forward, Backward, Both}
+use Rattle.inter_reconstruction.specs.declared.macroblock.MacroblockPrediction.{MacroblockPrediction}
+use Rattle.inter_reconstruction.proofs.Checks.{answer-number}
 
 -- ---- what the references refuse
 
@@ -44,51 +43,91 @@ planes-most (Present p) n = cause-most (not (planesFit p n)) (omega arith)
 one-most : (dest : FrameGeometry) (r : ReferenceFrame) (n : ColourComponent → ℕ) → or_else (geometryRefusal dest r) (planesRefusal r n) ≤ 16
 one-most dest r n = orElse-most _ _ (geometry-most dest r) (planes-most r n)
 
-module _ (dest : FrameGeometry) (n k : ColourComponent → ℕ) (still : DirectionMotion) where
-  -- samples given before are unchanged: what is accepted by the directions that have motion uses these
-  pub unchanged : (f b : ReferenceFrame) (d e : OptionDirectionMotion) → referencesRefusal dest f n b k (wanted still d e) ≡ 0
-      → uses still d e (isPresent f) (isPresent b) ≡ wanted still d e
-  unchanged f b None None a = refl
-  unchanged f b (Some d) None a = refl
-  unchanged f b None (Some e) a = refl
-  unchanged Absent b (Some d) (Some e) a = absurd (omega (arith, a))
-  unchanged (Present p) Absent (Some d) (Some e) a = absurd (omega (arith, a))
-  unchanged (Present p) (Present q) (Some d) (Some e) a = refl
+module _ (dest : FrameGeometry) (n k : ColourComponent → ℕ) where
+  -- what is accepted by the directions that have motion uses these
+  pub unchanged : (f b : ReferenceFrame) (u : Uses) → referencesRefusal dest f n b k u ≡ 0 → remaining u (isPresent f) (isPresent b) ≡ u
+  unchanged f b (Forward d) a = refl
+  unchanged f b (Backward e) a = refl
+  unchanged Absent b (Both d e) a = absurd (omega (arith, a))
+  unchanged (Present p) Absent (Both d e) a = absurd (omega (arith, a))
+  unchanged (Present p) (Present q) (Both d e) a = refl
 
-  forward-most : (f b : ReferenceFrame) (d : DirectionMotion) (e : OptionDirectionMotion)
-      → referencesRefusal dest f n b k (uses still (Some d) e (isPresent f) (isPresent b)) ≤ 16
-  forward-most Absent b d None = omega arith
-  forward-most (Present p) b d None = one-most dest (Present p) n
-  forward-most Absent Absent d (Some e) = omega arith
-  forward-most Absent (Present q) d (Some e) = one-most dest (Present q) k
-  forward-most (Present p) Absent d (Some e) = one-most dest (Present p) n
-  forward-most (Present p) (Present q) d (Some e) =
+  both-most : (p q : FrameBuffer) (d e : DirectionMotion) → referencesRefusal dest (Present p) n (Present q) k (Both d e) ≤ 16
+  both-most p q d e =
       orElse-most (geometryRefusal dest (Present p)) _ (geometry-most dest (Present p))
       (orElse-most (geometryRefusal dest (Present q)) _ (geometry-most dest (Present q))
       (orElse-most (planesRefusal (Present p) n) _ (planes-most (Present p) n) (planes-most (Present q) k)))
 
-  neither-most : (f b : ReferenceFrame) → referencesRefusal dest f n b k (uses still None None (isPresent f) (isPresent b)) ≤ 16
-  neither-most Absent b = omega arith
-  neither-most (Present p) b = one-most dest (Present p) n
-
-  -- 17 is a backward reference that is absent, where there is backward motion and no forward motion
-  pub backward-only : (f b : ReferenceFrame) (d e : OptionDirectionMotion)
-      → referencesRefusal dest f n b k (uses still d e (isPresent f) (isPresent b)) ≡ 17
-      → BackwardAlone d e × (b ≡ Absent)
-  backward-only f Absent None (Some e) a = (tt, refl)
-  backward-only f (Present q) None (Some e) a = absurd (omega (arith, one-most dest (Present q) k, a))
-  backward-only f b None None a = absurd (omega (arith, neither-most f b, a))
-  backward-only f b (Some d) e a = absurd (omega (arith, forward-most f b d e, a))
+  -- 17 is a backward reference that is absent, where there is backward motion alone
+  pub backward-only : (f b : ReferenceFrame) (u : Uses)
+      → referencesRefusal dest f n b k (remaining u (isPresent f) (isPresent b)) ≡ 17
+      → BackwardAlone u × (isPresent b ≡ false)
+  backward-only f Absent (Backward e) a = (tt, refl)
+  backward-only f (Present q) (Backward e) a = absurd (omega (arith, one-most dest (Present q) k, a))
+  backward-only Absent b (Forward d) a = absurd (omega (arith, a))
+  backward-only (Present p) b (Forward d) a = absurd (omega (arith, one-most dest (Present p) n, a))
+  backward-only Absent Absent (Both d e) a = absurd (omega (arith, a))
+  backward-only Absent (Present q) (Both d e) a = absurd (omega (arith, one-most dest (Present q) k, a))
+  backward-only (Present p) Absent (Both d e) a = absurd (omega (arith, one-most dest (Present p) n, a))
+  backward-only (Present p) (Present q) (Both d e) a = absurd (omega (arith, both-most p q d e, a))
 
   -- of motion in both directions: both references absent, and each of the two alone
   module _ (d e : DirectionMotion) (p : FrameBuffer) where
-    pub both-absent : referencesRefusal dest Absent n Absent k (uses still (Some d) (Some e) false false) ≡ 16
+    pub both-absent : referencesRefusal dest Absent n Absent k (remaining (Both d e) false false) ≡ 16
     both-absent = refl
 
-    pub forward-there : referencesRefusal dest (Present p) n Absent k (uses still (Some d) (Some e) true false)
+    pub forward-there : referencesRefusal dest (Present p) n Absent k (remaining (Both d e) true false)
         ≡ or_else (geometryRefusal dest (Present p)) (planesRefusal (Present p) n)
     forward-there = refl
 
-    pub backward-there : referencesRefusal dest Absent n (Present p) k (uses still (Some d) (Some e) false true)
+    pub backward-there : referencesRefusal dest Absent n (Present p) k (remaining (Both d e) false true)
         ≡ or_else (geometryRefusal dest (Present p)) (planesRefusal (Present p) k)
     backward-there = refl
+
+-- ---- the same of a whole call: of its refusal and its answer
+
+-- a chain of three gives a number that neither of the first two gives only where the third does
+third : (a b c n : ℕ) → (a ≡ n → ⊥) → (b ≡ n → ⊥) → or_else a (or_else b c) ≡ n → c ≡ n
+third zero zero c n x y e = e
+third zero (suc b) c n x y e = absurd (y e)
+third (suc a) b c n x y e = absurd (x e)
+
+cause-is : (t : Bool) (m n : ℕ) → (0 ≡ n → ⊥) → (m ≡ n → ⊥) → cause t m ≡ n → ⊥
+cause-is true m n x y e = y e
+cause-is false m n x y e = x e
+
+-- a chain of three is 0 only where each is
+last-none : (a b c : ℕ) → or_else a (or_else b c) ≡ 0 → c ≡ 0
+last-none zero zero c e = e
+last-none zero (suc b) c e = absurd (omega (arith, e))
+last-none (suc a) b c e = absurd (omega (arith, e))
+
+module _ (dest : FrameGeometry) (out : ℕ) (f b : ReferenceFrame) (n k : ColourComponent → ℕ) (u : Uses) (col row : ℕ) where
+  pub same-uses : predictionRefusal dest out f n b k u col row ≡ 0 → remaining u (isPresent f) (isPresent b) ≡ u
+  same-uses e =
+      unchanged dest n k f b u
+      (last-none (cellRefusal col row) (cause (not (eqb out (macroblockBytes dest.chroma_format))) wrongLength) (referencesRefusal dest f n b k u) e)
+
+  -- samples given before are unchanged: what was accepted by the directions that have motion is answered and written by these
+  pub as-before : (r : MacroblockPrediction) (o old : List ℕ) (w : Uses → List ℕ)
+      → r ≡ predictionAnswer (predictionRefusal dest out f n b k (remaining u (isPresent f) (isPresent b)) col row) (accepted (remaining u (isPresent f) (isPresent b)))
+      → o ≡ unlessRefused (predictionNumber r) (w (remaining u (isPresent f) (isPresent b))) old
+      → predictionRefusal dest out f n b k u col row ≡ 0
+      → (r ≡ predictionAnswer 0 (accepted u)) × (o ≡ w u)
+  as-before r o old w a v e =
+      let s = same-uses e in
+      let x : r ≡ predictionAnswer 0 (accepted u) = a ∙ rw (s, e) in
+      (x, v ∙ rw (x, s))
+
+  -- 17 is backward motion's alone
+  pub alone-17 : (r : MacroblockPrediction)
+      → r ≡ predictionAnswer (predictionRefusal dest out f n b k (remaining u (isPresent f) (isPresent b)) col row) (accepted (remaining u (isPresent f) (isPresent b)))
+      → predictionNumber r ≡ 17
+      → BackwardAlone u × (isPresent b ≡ false)
+  alone-17 r a e =
+      let m : predictionRefusal dest out f n b k (remaining u (isPresent f) (isPresent b)) col row ≡ 17 = sym (ap predictionNumber a ∙ answer-number _ _) ∙ e in
+      backward-only dest n k f b u
+      (third (cellRefusal col row) (cause (not (eqb out (macroblockBytes dest.chroma_format))) wrongLength) _ 17
+      (cause-is (tooFar col || tooFar row) cellTooFar 17 (λ z. omega (arith, z)) (λ z. omega (arith, z)))
+      (cause-is (not (eqb out (macroblockBytes dest.chroma_format))) wrongLength 17 (λ z. omega (arith, z)) (λ z. omega (arith, z)))
+      m)

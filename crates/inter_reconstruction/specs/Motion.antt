@@ -60,9 +60,21 @@ remaining (Both d e) true false = Forward d
 remaining (Both d e) false true = Backward e
 remaining (Both d e) false false = Both d e
 
+-- backward motion, and no forward motion
+abbrev pub BackwardAlone : Uses → Type 0
+BackwardAlone (Forward d) = ⊥
+BackwardAlone (Backward e) = Unit {0}
+BackwardAlone (Both d e) = ⊥
+
 -- the directions that are used, by the motion of each and the presence of the references
 abbrev pub uses : DirectionMotion → OptionDirectionMotion → OptionDirectionMotion → Bool → Bool → Uses
 uses still d e = remaining (wanted still d e)
+
+abbrev pub frameWanted : FrameMotion → Uses
+frameWanted m = wanted (Frame zeroVector) (frameDirection m.forward) (frameDirection m.backward)
+
+abbrev pub fieldWanted : FieldBasedMotion → Uses
+fieldWanted m = wanted (Field zeroPair) (fieldDirection m.forward) (fieldDirection m.backward)
 
 abbrev pub frameUses : FrameMotion → Bool → Bool → Uses
 frameUses m = uses (Frame zeroVector) (frameDirection m.forward) (frameDirection m.backward)

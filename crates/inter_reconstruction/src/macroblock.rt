@@ -1,15 +1,15 @@
 //! ISO/IEC 13818-2, 7.6.4 to 7.6.7: the calls that predict a macroblock, with all that they refuse.
-ghost use Rattle.std.specs.Prelude.{◌≡◌, ◌++◌, ◌+◌, ◌*◌, ◌%◌, ◌≤◌, ◌<◌, length, Some};
+ghost use Rattle.std.specs.Prelude.{◌≡◌, ◌++◌, ◌+◌, ◌*◌, ◌%◌, ◌≤◌, ◌<◌, length, Some, false};
 ghost use Rattle.laws.specs.Tabulate.{tabulate};
 ghost use Rattle.combine_predictions.specs.Refusals.{unlessRefused};
 ghost use Rattle.forming_predictions.specs.Means.{rounded};
 ghost use Rattle.inter_reconstruction.specs.declared.motion.DirectionMotion.TheVariants.{Frame, Field};
 ghost use Rattle.inter_reconstruction.specs.declared.motion.Uses.TheVariants.{Both};
 ghost use Rattle.inter_reconstruction.specs.Components.{ColourComponent};
-ghost use Rattle.inter_reconstruction.specs.Motion.{frameUses, fieldUses, fieldVectorOf};
+ghost use Rattle.inter_reconstruction.specs.Motion.{frameWanted, fieldWanted, frameUses, fieldUses, fieldVectorOf, BackwardAlone};
 ghost use Rattle.inter_reconstruction.specs.Frames.{readPlane, samplesOf, readFrame, lengthsOf, isPresent, readReference};
 ghost use Rattle.inter_reconstruction.specs.Macroblock.{fieldSample, directionSample, usedSample, rectangle, predicted};
-ghost use Rattle.inter_reconstruction.specs.Refusals.{sameGeometry, planesFit, oneRefusal, referencesRefusal, predictionRefusal};
+ghost use Rattle.inter_reconstruction.specs.Refusals.{backwardMissing, sameGeometry, planesFit, oneRefusal, referencesRefusal, predictionRefusal};
 ghost use Rattle.inter_reconstruction.specs.Answers.{accepted, directionsOf, predictionAnswer, predictionDirections, predictionNumber};
 ghost use Rattle.inter_reconstruction.specs.inner.Blocks.{PlaneFits, BlockAt, FieldRows, HalvesAt, fieldHalves, interleavedCell, forwardBytes};
 ghost use Rattle.inter_reconstruction.specs.inner.Planes.{FrameFits, CellFits, BlocksFit, directedPart, directed, chromaBlocks, frameRefusal, framesRefusal, missingIn, destinationRefusal};
@@ -781,6 +781,19 @@ pub fn predict_frame_macroblock_planes(
         let prediction = predicted rounded dest.chroma_format forward_read backward_read used mb_col mb_row in
         out.new ≡ unlessRefused (predictionNumber result) prediction out.old
     }
+
+    // Samples given by the directions that have motion, where nothing of these is refused, are as they would be by these alone.
+    ensures unchanged {
+        let wanted = frameWanted motion in
+        let forward_samples = samplesOf forward_y.now forward_cb.now forward_cr.now in
+        let backward_samples = samplesOf backward_y.now backward_cb.now backward_cr.now in
+        let refusal = predictionRefusal dest (length out.old) forward (lengthsOf forward_samples) backward (lengthsOf backward_samples) wanted mb_col mb_row in
+        let prediction = predicted rounded dest.chroma_format (readReference forward forward_samples) (readReference backward backward_samples) wanted mb_col mb_row in
+        refusal ≡ 0 → (result ≡ predictionAnswer 0 (accepted wanted)) × (out.new ≡ prediction)
+    }
+    ensures backward_alone {
+        predictionNumber result ≡ backwardMissing → BackwardAlone (frameWanted motion) × (isPresent backward ≡ false)
+    }
 {
     let refusal = destination_refusal(dest, mb_col, mb_row, out.len());
     if refusal != 0 {
@@ -878,6 +891,19 @@ pub fn predict_field_based_macroblock_planes(
         let backward_read = readReference backward (samplesOf backward_y.now backward_cb.now backward_cr.now) in
         let prediction = predicted rounded dest.chroma_format forward_read backward_read used mb_col mb_row in
         out.new ≡ unlessRefused (predictionNumber result) prediction out.old
+    }
+
+    // Samples given by the directions that have motion, where nothing of these is refused, are as they would be by these alone.
+    ensures unchanged {
+        let wanted = fieldWanted motion in
+        let forward_samples = samplesOf forward_y.now forward_cb.now forward_cr.now in
+        let backward_samples = samplesOf backward_y.now backward_cb.now backward_cr.now in
+        let refusal = predictionRefusal dest (length out.old) forward (lengthsOf forward_samples) backward (lengthsOf backward_samples) wanted mb_col mb_row in
+        let prediction = predicted rounded dest.chroma_format (readReference forward forward_samples) (readReference backward backward_samples) wanted mb_col mb_row in
+        refusal ≡ 0 → (result ≡ predictionAnswer 0 (accepted wanted)) × (out.new ≡ prediction)
+    }
+    ensures backward_alone {
+        predictionNumber result ≡ backwardMissing → BackwardAlone (fieldWanted motion) × (isPresent backward ≡ false)
     }
 {
     let refusal = destination_refusal(dest, mb_col, mb_row, out.len());

@@ -1,7 +1,14 @@
--- A direction that is not used is not read, so the bytes of the one direction are the macroblock's.
+-- A direction that is not used is not read, so the bytes of the one direction are the macroblock's. What was accepted by the directions that have motion
+-- uses these.
 -- Assumes nothing.
-use Rattle.inter_reconstruction.specs.Frames.{samplesOf, readReference}
-use Rattle.inter_reconstruction.proofs.Checks.{forward-written, backward-written}
+use Rattle.std.proofs.Common.{length, rules, arith}
+use Rattle.std.proofs.lemmas.Grind.{common_steps}
+use Rattle.forming_predictions.specs.Means.{rounded}
+use Rattle.inter_reconstruction.specs.Frames.{samplesOf, lengthsOf, readReference}
+use Rattle.inter_reconstruction.specs.Macroblock.{predicted}
+use Rattle.inter_reconstruction.specs.Motion.{fieldWanted}
+use Rattle.inter_reconstruction.proofs.Checks.{written, forward-written, backward-written}
+use Rattle.inter_reconstruction.proofs.Directions.{as-before}
 use Rattle.inter_reconstruction.proofs.macroblock.predict_field_based_macroblock_planes.Goals as goal
 
 pub returns-in-Forward-clause-buffer : goal.returns-in-Forward-clause-buffer
@@ -10,7 +17,7 @@ returns-in-Forward-clause-buffer c =
     forward-written a.dest.chroma_format
     (readReference a.forward (samplesOf a.forward_y.now a.forward_cb.now a.forward_cr.now))
     (readReference a.backward (samplesOf a.backward_y.now a.backward_cb.now a.backward_cr.now))
-    c.in-Forward.d a.mb_col a.mb_row _ _ _ _ _ _
+    a.mb_col a.mb_row c.in-Forward.d _ _ _ _ _ _
     (rw (c.is_present.ensures, c.is_present-2.ensures) at c.in-Forward.ensures)
     c.answer_of.ensures
     c.predict_alone.ensures.buffer
@@ -21,7 +28,57 @@ returns-in-Backward-clause-buffer c =
     backward-written a.dest.chroma_format
     (readReference a.forward (samplesOf a.forward_y.now a.forward_cb.now a.forward_cr.now))
     (readReference a.backward (samplesOf a.backward_y.now a.backward_cb.now a.backward_cr.now))
-    c.in-Backward.e a.mb_col a.mb_row _ _ _ _ _ _
+    a.mb_col a.mb_row c.in-Backward.e _ _ _ _ _ _
     (rw (c.is_present.ensures, c.is_present-2.ensures) at c.in-Backward.ensures)
     c.answer_of-in-Backward.ensures
     c.predict_alone-in-Backward.ensures.buffer
+
+pub returns-in-Forward-clause-answer : goal.returns-in-Forward-clause-answer
+returns-in-Forward-clause-answer c = grind (arith, common_steps)
+
+pub returns-in-Forward-clause-unchanged : goal.returns-in-Forward-clause-unchanged
+returns-in-Forward-clause-unchanged c =
+    let a = c.args in
+    let f = samplesOf a.forward_y.now a.forward_cb.now a.forward_cr.now in
+    let b = samplesOf a.backward_y.now a.backward_cb.now a.backward_cr.now in
+    as-before a.dest (length a.out.now) a.forward a.backward (lengthsOf f) (lengthsOf b) (fieldWanted a.motion) a.mb_col a.mb_row _ _ _
+    (λ u. predicted rounded a.dest.chroma_format (readReference a.forward f) (readReference a.backward b) u a.mb_col a.mb_row)
+    (returns-in-Forward-clause-answer c)
+    (returns-in-Forward-clause-buffer c)
+
+pub returns-in-Backward-clause-answer : goal.returns-in-Backward-clause-answer
+returns-in-Backward-clause-answer c = grind (arith, common_steps)
+
+pub returns-in-Backward-clause-unchanged : goal.returns-in-Backward-clause-unchanged
+returns-in-Backward-clause-unchanged c =
+    let a = c.args in
+    let f = samplesOf a.forward_y.now a.forward_cb.now a.forward_cr.now in
+    let b = samplesOf a.backward_y.now a.backward_cb.now a.backward_cr.now in
+    as-before a.dest (length a.out.now) a.forward a.backward (lengthsOf f) (lengthsOf b) (fieldWanted a.motion) a.mb_col a.mb_row _ _ _
+    (λ u. predicted rounded a.dest.chroma_format (readReference a.forward f) (readReference a.backward b) u a.mb_col a.mb_row)
+    (returns-in-Backward-clause-answer c)
+    (returns-in-Backward-clause-buffer c)
+
+pub returns-in-Both-clause-answer : goal.returns-in-Both-clause-answer
+returns-in-Both-clause-answer c = grind (arith, common_steps)
+
+pub returns-in-Both-clause-buffer : goal.returns-in-Both-clause-buffer
+returns-in-Both-clause-buffer c =
+    let a = c.args in
+    written a.dest.chroma_format
+    (readReference a.forward (samplesOf a.forward_y.now a.forward_cb.now a.forward_cr.now))
+    (readReference a.backward (samplesOf a.backward_y.now a.backward_cb.now a.backward_cr.now))
+    a.mb_col a.mb_row _ _ _ _ _ _ _
+    (rw (c.is_present.ensures, c.is_present-2.ensures) at c.in-Both.ensures)
+    c.answer_of-in-Both.ensures
+    c.predict_both.ensures.buffer
+
+pub returns-in-Both-clause-unchanged : goal.returns-in-Both-clause-unchanged
+returns-in-Both-clause-unchanged c =
+    let a = c.args in
+    let f = samplesOf a.forward_y.now a.forward_cb.now a.forward_cr.now in
+    let b = samplesOf a.backward_y.now a.backward_cb.now a.backward_cr.now in
+    as-before a.dest (length a.out.now) a.forward a.backward (lengthsOf f) (lengthsOf b) (fieldWanted a.motion) a.mb_col a.mb_row _ _ _
+    (λ u. predicted rounded a.dest.chroma_format (readReference a.forward f) (readReference a.backward b) u a.mb_col a.mb_row)
+    (returns-in-Both-clause-answer c)
+    (returns-in-Both-clause-buffer c)
