@@ -73,7 +73,7 @@ all: $(LIBRARY)
 $(LIBRARY): $(call sources,laws combine_predictions forming_predictions pmv inter_reconstruction entry_points fozdrik)
 	@mkdir -p build
 	@echo "proving and building $(LIBRARY), which takes some minutes"
-	@(cd crates/fozdrik && $(RT) lib) >build/library.log 2>&1 || { tail -n 40 build/library.log; echo "all of it is in build/library.log"; exit 1; }
+	@(cd crates/fozdrik && $(RT) lib --cpu x86-64) >build/library.log 2>&1 || { tail -n 40 build/library.log; echo "all of it is in build/library.log"; exit 1; }
 	@touch $@
 
 declarations:
@@ -340,7 +340,7 @@ $(BENCH)/libbench_pmv.a: $(call sources,laws combine_predictions forming_predict
 $(BENCH)/libbench_%.a:
 	@mkdir -p $(BENCH)
 	@echo "proving and building $@"
-	@(cd crates/bench_$* && $(RT) lib) >build/bench.log 2>&1 || { tail -n 40 build/bench.log; exit 1; }
+	@(cd crates/bench_$* && $(RT) lib --cpu x86-64) >build/bench.log 2>&1 || { tail -n 40 build/bench.log; exit 1; }
 	@cp crates/bench_$*/out/libbench_$*.a $@
 
 $(BENCH)/libcontestants.a: $(wildcard differential/c/*.[ch]) include/fozdrik.h
