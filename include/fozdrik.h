@@ -130,8 +130,9 @@ enum fozdrik_outcome {
 /* What the four calls return: 0, or one of these. Each call's comment has the order in which it tests.
  *
  * stream: the bits of a damaged or cut stream can lead there, though the program is right. After 1, 5 and 11 conceal what
- * is left of the slice, and go on at the next one; after 16 and 17 drop the picture. Where a macroblock has both
- * directions and one reference is there, neither comes: it is predicted from that one. caller: the program is wrong.
+ * is left of the slice, and go on at the next one. 16 and 17: a picture with no reference is to be dropped; of a B picture
+ * that lacks one, the macroblocks with both directions are predicted from the other one, and those that need the absent
+ * one alone are refused: conceal these. caller: the program is wrong.
  * docs/C-INTERFACE.md says more of each.
  */
 enum fozdrik_refusal {
@@ -262,8 +263,9 @@ uint32_t fozdrik_predict_frame_macroblock(
 /*
  * The prediction of a field-based macroblock of a frame picture: the same, but each direction has a vector for the
  * rows of the macroblock's top field and one for those of its bottom field. Before each vector stands the parity
- * of the reference's field that it reads; its vertical part counts half lines of that field. With no motion at
- * all each field is taken from the same field of the forward reference, by the zero vector.
+ * of the reference's field that it reads; its vertical part counts half lines of that field. Where the reference of one
+ * of two directions is absent, the other one alone is used, by its own two vectors. With no motion at all each field is
+ * taken from the same field of the forward reference, by the zero vector.
  *
  * Refusals: as above.
  */

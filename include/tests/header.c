@@ -254,10 +254,16 @@ static void test_macroblocks(void)
     HOLDS(fozdrik_frame_or_absent(&before) == &before);
 
     memset(out, 7, sizeof out);
+    HOLDS(fozdrik_predict_frame_based(&picture, 0, 0, NULL, NULL, &frames, out, sizeof out) == FOZDRIK_FORWARD_MISSING);
+    frames.forward_present = FOZDRIK_NO;
     HOLDS(fozdrik_predict_frame_based(&picture, 0, 0, &before, NULL, &frames, out, sizeof out) ==
           FOZDRIK_BACKWARD_MISSING);
+    frames.forward_present = FOZDRIK_YES;
     HOLDS(fozdrik_predict_frame_based(&picture, 0, 0, &before, &after, &frames, out, 1) == FOZDRIK_WRONG_LENGTH);
     HOLDS(all_are(out, sizeof out, 7));
+    /* of two directions and one reference, that one alone */
+    HOLDS(fozdrik_predict_frame_based(&picture, 0, 0, &before, NULL, &frames, out, sizeof out) == 0);
+    HOLDS(all_are(out, 256, samples[0][0]) && all_are(out + 256, 64, samples[0][1]) && all_are(out + 320, 64, samples[0][2]));
     HOLDS(fozdrik_predict_frame_based(&picture, 0, 0, &before, &after, &frames, out, sizeof out) == 0);
     HOLDS(all_are(out, 256, 11) && all_are(out + 256, 64, 22) && all_are(out + 320, 64, 36));
 

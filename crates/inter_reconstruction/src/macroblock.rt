@@ -684,7 +684,7 @@ fn predict_with_two(
     PREDICTED
 }
 
-/// Both directions: 16, then 17, where their references are absent.
+/// Both directions: 16, then 17, where their references are absent. From the calls above either both are absent or none is.
 fn predict_both(
     dest: FrameGeometry,
     forward_motion: DirectionMotion,

@@ -1098,7 +1098,10 @@ another width, height or format; 14 where a plane of it does not fit; 15 where b
             }
             for place in 0..3 {
                 let mut planes = fitting;
-                planes[place].length -= 1;
+                match place {
+                    2 => planes[place] = sides(0, OVER),
+                    _ => planes[place].length -= 1,
+                }
                 maker.set(there, planes);
                 let motion = maker.draw_motion(call, BOTH, 9);
                 let request = alone(maker.request(motion, (0, 0)));

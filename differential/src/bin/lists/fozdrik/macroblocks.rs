@@ -133,6 +133,7 @@ pub fn groups(maker: &mut Maker) {
     not_used(maker);
     orders(maker);
     drawn(maker);
+    one_of_two(maker);
 }
 
 fn directions(maker: &mut Maker) {
@@ -558,6 +559,46 @@ fn drawn(maker: &mut Maker) {
                 stray(&mut request, argument, which);
             }
             maker.predict(&request);
+        }
+    }
+}
+
+/// Both directions have motion, and one reference is there.
+fn one_of_two(maker: &mut Maker) {
+    maker.list.group(
+        "macroblocks, p. the scope's and not the Rust's: both directions, and one reference alone, beside an
+absence whose numbers are not read: the macroblock of that one; 15 where it declares another
+width, height or format, 14 where a plane of it does not fit, 15 where both hold",
+    );
+    for (call, format) in calls_and_formats() {
+        for there in 0..2 {
+            let absent = 1 - there;
+            let ask = |maker: &mut Maker, number, change: fn(&mut Declared)| {
+                let mut request = maker.request(call, (32, 32), format, BOTH);
+                request.references[absent] = Declared {
+                    present: 0,
+                    width: 7,
+                    height: 1 << 40,
+                    format: 3,
+                };
+                change(&mut request.references[there]);
+                maker.predict_for(number, &request);
+            };
+            maker.picture((32, 32), format);
+            maker.set(
+                absent,
+                [sides(LARGEST_SIDE + 1, 1), sides(3, 5), sides(0, 0)],
+            );
+            ask(maker, ACCEPTED, |_| {});
+            ask(maker, OTHER_GEOMETRY, |declared| declared.width += 16);
+            ask(maker, OTHER_GEOMETRY, |declared| {
+                declared.format = (declared.format + 1) % 3;
+            });
+            let mut planes = picture_planes(32, 32, format);
+            planes[there] = sides(LARGEST_SIDE + 1, 0);
+            maker.set(there, planes);
+            ask(maker, OUTSIDE_DOMAIN, |_| {});
+            ask(maker, OTHER_GEOMETRY, |declared| declared.height += 1);
         }
     }
 }
