@@ -1,9 +1,8 @@
 -- Laws of the answer of a call that writes a block.
 -- Assumes nothing.
-use mathlib.Core.Path.{◌≡◌, refl, ap}
+use mathlib.Core.Path.{◌≡◌, ap}
 use Prim.Native.Nat.{ℕ, zero, suc}
 use native.Mathlib.Omega.{arith}
-use Rattle.combine_predictions.specs.Refusals.{unlessRefused}
 use Rattle.forming_predictions.specs.BlockAnswers.{blockNumber, blockAnswer}
 use Rattle.forming_predictions.specs.declared.Predicted.TheVariants.{Refused}
 

@@ -4,13 +4,13 @@ use mathlib.Core.Path.{◌≡◌, refl, sym, ap, ◌∙◌}
 use mathlib.Core.Bool.{true, false}
 use mathlib.Core.List.{List, [], ◌∷◌}
 use Prim.Native.Nat.{ℕ, ◌+◌, ◌-◌, ◌*◌, ◌/◌, ◌%◌, ◌≤◌, ◌<◌}
-use native.Mathlib.Nat.{zero-add, add_assoc, zero-mul, one-mul, mul_comm, mul_assoc, mul-add, add-mul, mul-le-mul, mod-lt, div-lt_iff_lt-mul}
+use native.Mathlib.Nat.{zero-add, add_assoc, zero-mul, one-mul, mul_comm, mul_assoc, mul-add, add-mul, mod-lt, div-lt_iff_lt-mul}
 use native.Mathlib.Omega.{arith}
 use lib.Arith.{digits_lt, digits_div, digits_mod}
 use lib.Dec.{leb}
 use lib.IntN.{ℤ, pos, negsuc, ◌+ℤ◌, +ℤ_assoc}
 use lib.ListN.{length, get_or, take, drop}
-use lib.Seq.{length-take-le, take_at, get_or-take}
+use lib.Seq.{length-take-le, take_at}
 use borrow.Author.Tests.{leb-true}
 use Rattle.laws.specs.Tabulate.{tabulate}
 use Rattle.laws.proofs.Signed.{zp, zn, eq-z, add-z}
@@ -20,7 +20,7 @@ use Rattle.laws.proofs.Parts.{part_length, part_at}
 use Rattle.forming_predictions.specs.Lines.{clampTo}
 use Rattle.forming_predictions.specs.Means.{mean4}
 use Rattle.forming_predictions.specs.Forming.{block_of}
-use Rattle.forming_predictions.specs.inner.Views.{lineStart, viewRead, spread, twoOf, fourOf, clampedOf, lineCell, picked, columnAt, insideOf, ViewFits, BlockFits, Eights, RowFits, Inside, ColumnsFit, FetchFits, RegionFits}
+use Rattle.forming_predictions.specs.inner.Views.{lineStart, viewRead, spread, twoOf, fourOf, clampedOf, lineCell, picked, columnAt, insideOf, ViewFits, BlockFits, Inside, ColumnsFit, FetchFits}
 use Rattle.forming_predictions.proofs.Lines.{clamp-in, clamp-lt}
 use Rattle.forming_predictions.proofs.Views.{empty-read}
 use Rattle.forming_predictions.proofs.RowMeans.{mean4-same, two-is-four}

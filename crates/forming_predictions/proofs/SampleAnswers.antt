@@ -5,7 +5,7 @@ use Prim.Native.Nat.{ℕ, zero, suc}
 use native.Mathlib.Omega.{arith}
 use Rattle.forming_predictions.specs.SampleAnswers.{sampleNumber, sampleValue, valueUnless, sampleAnswer}
 use Rattle.forming_predictions.specs.declared.Sampled.{Sampled}
-use Rattle.forming_predictions.specs.declared.Sampled.TheVariants.{Sample, Refused}
+use Rattle.forming_predictions.specs.declared.Sampled.TheVariants.{Refused}
 
 -- an answer's number is the one that it was made of
 pub number-sample : (n v : ℕ) → sampleNumber (sampleAnswer n v) ≡ n

@@ -7,14 +7,11 @@ use Prim.Native.Nat.{ℕ, zero, suc, ◌+◌, ◌*◌, ◌≤◌, ◌<◌}
 use native.Mathlib.Nat.{zero-mul, mul-zero, mul_comm, mul-le-mul, mul-le-mul_right, suc-mul}
 use native.Mathlib.Omega.{arith}
 use lib.Dec.{eqb}
-use lib.IntN.{ℤ, pos, ◌+ℤ◌, +ℤ_assoc}
+use lib.IntN.{ℤ, pos}
 use lib.ListN.{length, get_or}
 use borrow.Author.Tests.{ne_eqb}
-use mir.Syntax.{w32, w64}
-use mir.Val.{SFits, Fits}
-use Rattle.laws.proofs.Signed.{add-z, sfits-hi, sfits-lo, sfits-z}
 use Rattle.forming_predictions.specs.Lines.{Lines, frame, field, fieldLines, clampTo, row_of, sampleAt}
-use Rattle.forming_predictions.specs.inner.Views.{lineStart, viewRead, ViewFits, Readable, Steps, RowsFit, ReadsAs, rowsSample}
+use Rattle.forming_predictions.specs.inner.Views.{lineStart, viewRead, ViewFits, Readable, RowsFit, ReadsAs, rowsSample}
 use Rattle.forming_predictions.specs.declared.FieldParity.TheVariants.{Top, Bottom}
 use Rattle.forming_predictions.specs.declared.Rows.{Rows}
 use Rattle.forming_predictions.proofs.Lines.{clamp-is, clamp-lt, top-lines, bottom-lines, frame_row, field_row, empty-field}

@@ -1,11 +1,11 @@
 -- A buffer that is written from its front, part after part, and the front of a local array.
 -- Assumes nothing.
-use mathlib.Core.Path.{◌≡◌, refl, sym, ap, ◌∙◌}
+use mathlib.Core.Path.{◌≡◌, refl, sym, ◌∙◌}
 use mathlib.Core.List.{List, ◌++◌, append_assoc, append-nil}
 use Prim.Native.Nat.{ℕ, ◌+◌, ◌-◌, ◌≤◌}
 use native.Mathlib.Omega.{arith}
-use lib.ListN.{length, take, drop, length-append, length-drop, replicate, get_or}
-use lib.Seq.{take_at, drop_at, drop-drop, drop-length, length-take-le}
+use lib.ListN.{length, take, drop, length-append, replicate, get_or}
+use lib.Seq.{take_at, drop_at, drop-drop, drop-length}
 use borrow.Rule.Slice.PartMut.{put_mid}
 use Rattle.laws.specs.Tabulate.{tabulate}
 use Rattle.laws.proofs.Tabulated.{tab-ext, tab-self}

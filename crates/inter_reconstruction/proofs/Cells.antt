@@ -9,13 +9,12 @@ use lib.ListN.{length}
 use Rattle.forming_predictions.specs.Means.{rounded}
 use Rattle.pmv.specs.declared.kinds.ChromaFormat.{ChromaFormat}
 use Rattle.pmv.specs.declared.kinds.ChromaFormat.TheVariants.{Yuv420, Yuv422, Yuv444}
-use Rattle.inter_reconstruction.specs.declared.motion.DirectionMotion.{DirectionMotion}
 use Rattle.inter_reconstruction.specs.declared.motion.Uses.{Uses}
 use Rattle.inter_reconstruction.specs.Components.{ColourComponent, luma, cb, cr, blockWidth, blockHeight, blockBytes, macroblockBytes}
-use Rattle.inter_reconstruction.specs.Motion.{chromaMotion, chromaUses}
+use Rattle.inter_reconstruction.specs.Motion.{chromaUses}
 use Rattle.inter_reconstruction.specs.Frames.{PlaneReading}
-use Rattle.inter_reconstruction.specs.Macroblock.{directionSample, usedSample, rectangle, part, macroblock, predicted}
-use Rattle.inter_reconstruction.specs.inner.Blocks.{BlockAt, FieldRows, HalvesAt, ChromaSides}
+use Rattle.inter_reconstruction.specs.Macroblock.{usedSample, rectangle, macroblock, predicted}
+use Rattle.inter_reconstruction.specs.inner.Blocks.{BlockAt, FieldRows, ChromaSides}
 use Rattle.inter_reconstruction.specs.inner.Planes.{CellFits, BlocksFit, chromaBlocks}
 use Rattle.inter_reconstruction.proofs.Begun.{append-count}
 use Rattle.inter_reconstruction.proofs.Rectangles.{rectangle-length}

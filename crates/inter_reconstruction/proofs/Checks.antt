@@ -1,36 +1,28 @@
 -- What the tests of the calls say.
 -- Assumes nothing.
-use mathlib.Core.Path.{◌≡◌, refl, sym, ap, ◌∙◌}
+use mathlib.Core.Path.{◌≡◌, refl, ap, ◌∙◌}
 use mathlib.Core.List.{List}
-use Rattle.std.specs.Prelude.{Some}
-use mathlib.Core.Bool.{Bool, true, false, not, ◌&&◌, ◌||◌}
+use mathlib.Core.Bool.{Bool, true, false, ◌&&◌, ◌||◌}
 use Prim.Native.Nat.{ℕ, zero, suc, ◌+◌, ◌*◌}
 use native.Mathlib.Omega.{arith}
-use lib.Dec.{eqb}
 use lib.ListN.{length}
-use borrow.Author.Tests.{ltb-false, eqb-true}
-use Rattle.laws.proofs.Tests.{not_taken, not_left, both}
-use Rattle.combine_predictions.specs.Refusals.{wrongLength, cause, or_else, unlessRefused}
-use Rattle.combine_predictions.specs.declared.PredictionDirection.{PredictionDirection}
+use Rattle.laws.proofs.Tests.{both}
+use Rattle.combine_predictions.specs.Refusals.{unlessRefused}
 use Rattle.forming_predictions.specs.Means.{rounded}
 use Rattle.forming_predictions.specs.Refusals.{planeFits}
 use Rattle.pmv.specs.declared.kinds.ChromaFormat.{ChromaFormat}
-use Rattle.inter_reconstruction.specs.declared.frames.FrameGeometry.{FrameGeometry}
 use Rattle.inter_reconstruction.specs.declared.frames.FrameBuffer.{FrameBuffer}
-use Rattle.inter_reconstruction.specs.declared.frames.ReferenceFrame.{ReferenceFrame}
-use Rattle.inter_reconstruction.specs.declared.frames.ReferenceFrame.TheVariants.{Absent}
 use Rattle.inter_reconstruction.specs.declared.motion.DirectionMotion.{DirectionMotion}
 use Rattle.inter_reconstruction.specs.declared.motion.Uses.{Uses}
 use Rattle.inter_reconstruction.specs.declared.motion.Uses.TheVariants.{Forward, Backward}
 use Rattle.inter_reconstruction.specs.declared.macroblock.Accepted.{Accepted}
 use Rattle.inter_reconstruction.specs.declared.macroblock.MacroblockPrediction.{MacroblockPrediction}
-use Rattle.inter_reconstruction.specs.declared.macroblock.MacroblockPrediction.TheVariants.{Refused}
 use Rattle.inter_reconstruction.specs.Components.{ColourComponent, luma, cb, cr, blockWidth, blockHeight, macroblockBytes}
 use Rattle.inter_reconstruction.specs.Frames.{Samples, lengthsOf, planeOf, PlaneReading}
 use Rattle.inter_reconstruction.specs.Macroblock.{usedSample, rectangle, macroblock, predicted}
-use Rattle.inter_reconstruction.specs.Refusals.{cellTooFar, tooFar, cellRefusal, planesFit, oneRefusal, referencesRefusal, predictionRefusal}
-use Rattle.inter_reconstruction.specs.Answers.{predictionNumber, predictionDirections, directionsOf, accepted, predictionAnswer}
-use Rattle.inter_reconstruction.specs.inner.Planes.{FrameFits, CellFits, directed, missingIn, destinationRefusal}
+use Rattle.inter_reconstruction.specs.Refusals.{planesFit}
+use Rattle.inter_reconstruction.specs.Answers.{predictionNumber, predictionAnswer}
+use Rattle.inter_reconstruction.specs.inner.Planes.{FrameFits, directed}
 
 neither : (x y : Bool) → (x || y) ≡ false → (x ≡ false) × (y ≡ false)
 neither true y e = let z : ◌≡◌ {A = ℕ} 0 1 = cc in absurd (omega arith)

@@ -10,18 +10,17 @@ use lib.Dec.{eqb, ltb}
 use lib.ListN.{length, take, drop}
 use borrow.Author.Tests.{eqb-true, ltb-true, leb-true}
 use Rattle.laws.proofs.Tests.{both}
-use Rattle.combine_predictions.specs.Refusals.{cause, or_else, unlessRefused}
+use Rattle.combine_predictions.specs.Refusals.{unlessRefused}
 use Rattle.forming_predictions.specs.Refusals.{planeFits, sideFits}
-use Rattle.forming_predictions.proofs.Refusals.{none_first, none-second, no-cause, PlaneRight, plane-right}
+use Rattle.forming_predictions.proofs.Refusals.{PlaneRight, plane-right}
 use Rattle.pmv.specs.declared.kinds.ChromaFormat.{ChromaFormat}
 use Rattle.pmv.specs.declared.kinds.ChromaFormat.TheVariants.{Yuv420, Yuv422, Yuv444}
 use Rattle.inter_reconstruction.specs.declared.frames.FrameBuffer.{FrameBuffer}
-use Rattle.inter_reconstruction.specs.declared.placing.MacroblockPlacement.TheVariants.{Refused}
 use Rattle.inter_reconstruction.specs.Components.{ColourComponent, luma, cb, cr, columnsOf, lines_of, blockWidth, blockHeight, blockBytes, macroblockBytes}
 use Rattle.inter_reconstruction.specs.Frames.{Samples, samplesOf, planeOf}
 use Rattle.inter_reconstruction.specs.Macroblock.{firstColumn, firstRow}
 use Rattle.inter_reconstruction.specs.Refusals.{everyComponent, planesFit}
-use Rattle.inter_reconstruction.specs.Placing.{stored, placeAt, part_of, placed, declaredFit, wholeSide, wholeSides, planeSidesFit, cellInside, pictureFits, wellFormed, placingRefusal, placingAnswer}
+use Rattle.inter_reconstruction.specs.Placing.{stored, placeAt, part_of, placed, declaredFit, wholeSide, wholeSides, planeSidesFit, pictureFits, wellFormed}
 use Rattle.inter_reconstruction.specs.inner.Placing.{Room, Placeable}
 use Rattle.inter_reconstruction.proofs.Checks.{bytes-are}
 

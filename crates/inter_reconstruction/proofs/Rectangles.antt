@@ -3,13 +3,13 @@
 use mathlib.Core.Path.{◌≡◌, refl, sym, ap, ◌∙◌}
 use mathlib.Core.Bool.{true}
 use mathlib.Core.List.{List, ◌++◌}
-use Prim.Native.Nat.{ℕ, zero, suc, ◌+◌, ◌-◌, ◌*◌, ◌/◌, ◌%◌, ◌≤◌, ◌<◌}
-use native.Mathlib.Nat.{sub-zero, zero-add, zero-mul, one-mul, mul_comm, mul-add, add-mul, mul-le-mul, mod-lt}
+use Prim.Native.Nat.{ℕ, zero, suc, ◌+◌, ◌*◌, ◌/◌, ◌%◌, ◌≤◌, ◌<◌}
+use native.Mathlib.Nat.{zero-add, zero-mul, one-mul, mul_comm, mul-add, add-mul, mod-lt}
 use native.Mathlib.Omega.{arith}
 use lib.Arith.{digits_lt, digits_div, digits_mod}
 use lib.IntN.{pos, negsuc}
-use lib.ListN.{length, length-append, take, get_or, get_or-append}
-use lib.Seq.{get_or-append-add, take-length}
+use lib.ListN.{length, length-append, get_or, get_or-append}
+use lib.Seq.{get_or-append-add}
 use borrow.Author.Tests.{le-leb, eq-eqb}
 use Rattle.laws.specs.Tabulate.{tabulate}
 use Rattle.laws.proofs.Signed.{yes_le}
@@ -17,10 +17,8 @@ use Rattle.laws.proofs.Tabulated.{length-tab, getD-tab, tab-ext}
 use Rattle.combine_predictions.specs.Refusals.{unlessRefused}
 use Rattle.combine_predictions.specs.Averaging.{mean2, averaged, averageAnswer, number_of}
 use Rattle.combine_predictions.specs.declared.Averaged.{Averaged}
-use Rattle.combine_predictions.specs.Choosing.{chosen}
 use Rattle.combine_predictions.specs.declared.PredictionDirection.{PredictionDirection}
 use Rattle.combine_predictions.specs.declared.PredictionDirection.TheVariants.{Forward, Backward, Skipped}
-use denote.Ref.{Bor}
 use Rattle.forming_predictions.specs.Lines.{frame, field, sampleAt}
 use Rattle.forming_predictions.specs.Means.{rounded}
 use Rattle.forming_predictions.specs.Forming.{block_of, predictedBlock}

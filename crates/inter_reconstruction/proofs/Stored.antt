@@ -3,12 +3,12 @@
 use mathlib.Core.Path.{◌≡◌, refl, sym, ap, ◌∙◌}
 use mathlib.Core.List.{List, [], ◌∷◌, ◌++◌, append_assoc}
 use Prim.Native.Nat.{ℕ, zero, suc, ◌+◌, ◌-◌, ◌*◌, ◌≤◌, ◌<◌}
-use native.Mathlib.Nat.{zero-add, suc-add, mul_comm, zero-mul, suc-mul, add_assoc, mul-le-mul_right}
+use native.Mathlib.Nat.{zero-add, suc-add, zero-mul, suc-mul, add_assoc, mul-le-mul_right}
 use native.Mathlib.Numerals.{add-one}
 use native.Mathlib.Omega.{arith}
 use lib.Arith.{digits_div, digits_mod}
 use lib.ListN.{length, get_or, set, take, drop, length-set}
-use lib.Seq.{sets, sets-eq, drop-drop, take-add, length-take-le, get_or-set_same, get_or-set_other, take-length}
+use lib.Seq.{sets, sets-eq, drop-drop, take-add, length-take-le, get_or-set_same, get_or-set_other}
 use borrow.Rule.Slice.PartMut.{put_mid}
 use Rattle.laws.proofs.Parts.{part_length}
 use Rattle.laws.proofs.Rows.{row_in}

@@ -2,7 +2,6 @@
 -- the standard's.
 use Rattle.std.specs.Prelude.{ℕ, zero, suc, Option, Some, None}
 use Rattle.inter_reconstruction.specs.declared.motion.Uses.{Uses}
-use Rattle.inter_reconstruction.specs.declared.motion.Uses.TheVariants as Uses
 use Rattle.inter_reconstruction.specs.declared.motion.UsedDirections.{UsedDirections}
 use Rattle.inter_reconstruction.specs.declared.motion.UsedDirections.TheVariants.{Forward, Backward, Both}
 use Rattle.inter_reconstruction.specs.declared.macroblock.Accepted.{Accepted}

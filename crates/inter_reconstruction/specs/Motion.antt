@@ -10,9 +10,7 @@ use Rattle.inter_reconstruction.specs.declared.motion.MotionVectorPel.{MotionVec
 use Rattle.inter_reconstruction.specs.declared.motion.FieldVector.{FieldVector}
 use Rattle.inter_reconstruction.specs.declared.motion.FieldVectorPair.{FieldVectorPair}
 use Rattle.inter_reconstruction.specs.declared.motion.FrameDirection.{FrameDirection}
-use Rattle.inter_reconstruction.specs.declared.motion.FrameDirection.TheVariants as FrameDirection
 use Rattle.inter_reconstruction.specs.declared.motion.FieldDirection.{FieldDirection}
-use Rattle.inter_reconstruction.specs.declared.motion.FieldDirection.TheVariants as FieldDirection
 use Rattle.inter_reconstruction.specs.declared.motion.FrameMotion.{FrameMotion}
 use Rattle.inter_reconstruction.specs.declared.motion.FieldBasedMotion.{FieldBasedMotion}
 use Rattle.inter_reconstruction.specs.declared.motion.DirectionMotion.{DirectionMotion}

@@ -12,4 +12,3 @@ pub mod macroblock;
 mod samples;
 /// Placing a macroblock in a picture.
 pub mod placing;
-

@@ -763,37 +763,27 @@ pub fn predict_frame_macroblock_planes(
     motion: FrameMotion,
     out: &mut [u8],
 ) -> MacroblockPrediction
-    ensures answer {
-        let used = frameUses motion (isPresent forward) (isPresent backward) in
+    ensures answer { let used = frameUses motion (isPresent forward) (isPresent backward) in
         let forward_lengths = lengthsOf (samplesOf forward_y.now forward_cb.now forward_cr.now) in
         let backward_lengths = lengthsOf (samplesOf backward_y.now backward_cb.now backward_cr.now) in
         let refusal = predictionRefusal dest (length out.old) forward forward_lengths backward backward_lengths used mb_col mb_row in
-        result ≡ predictionAnswer refusal (accepted used)
-    }
-    ensures directions {
-        let used = frameUses motion (isPresent forward) (isPresent backward) in
-        predictionNumber result ≡ 0 → predictionDirections result ≡ Some (directionsOf used)
-    }
-    ensures buffer {
-        let used = frameUses motion (isPresent forward) (isPresent backward) in
+        result ≡ predictionAnswer refusal (accepted used) }
+    ensures directions { let used = frameUses motion (isPresent forward) (isPresent backward) in
+        predictionNumber result ≡ 0 → predictionDirections result ≡ Some (directionsOf used) }
+    ensures buffer { let used = frameUses motion (isPresent forward) (isPresent backward) in
         let forward_read = readReference forward (samplesOf forward_y.now forward_cb.now forward_cr.now) in
         let backward_read = readReference backward (samplesOf backward_y.now backward_cb.now backward_cr.now) in
         let prediction = predicted rounded dest.chroma_format forward_read backward_read used mb_col mb_row in
-        out.new ≡ unlessRefused (predictionNumber result) prediction out.old
-    }
+        out.new ≡ unlessRefused (predictionNumber result) prediction out.old }
 
     // Samples given by the directions that have motion, where nothing of these is refused, are as they would be by these alone.
-    ensures unchanged {
-        let wanted = frameWanted motion in
+    ensures unchanged { let wanted = frameWanted motion in
         let forward_samples = samplesOf forward_y.now forward_cb.now forward_cr.now in
         let backward_samples = samplesOf backward_y.now backward_cb.now backward_cr.now in
         let refusal = predictionRefusal dest (length out.old) forward (lengthsOf forward_samples) backward (lengthsOf backward_samples) wanted mb_col mb_row in
         let prediction = predicted rounded dest.chroma_format (readReference forward forward_samples) (readReference backward backward_samples) wanted mb_col mb_row in
-        refusal ≡ 0 → (result ≡ predictionAnswer 0 (accepted wanted)) × (out.new ≡ prediction)
-    }
-    ensures backward_alone {
-        predictionNumber result ≡ backwardMissing → BackwardAlone (frameWanted motion) × (isPresent backward ≡ false)
-    }
+        refusal ≡ 0 → (result ≡ predictionAnswer 0 (accepted wanted)) × (out.new ≡ prediction) }
+    ensures backward_alone { predictionNumber result ≡ backwardMissing → BackwardAlone (frameWanted motion) × (isPresent backward ≡ false) }
 {
     let refusal = destination_refusal(dest, mb_col, mb_row, out.len());
     if refusal != 0 {
@@ -874,37 +864,27 @@ pub fn predict_field_based_macroblock_planes(
     motion: FieldBasedMotion,
     out: &mut [u8],
 ) -> MacroblockPrediction
-    ensures answer {
-        let used = fieldUses motion (isPresent forward) (isPresent backward) in
+    ensures answer { let used = fieldUses motion (isPresent forward) (isPresent backward) in
         let forward_lengths = lengthsOf (samplesOf forward_y.now forward_cb.now forward_cr.now) in
         let backward_lengths = lengthsOf (samplesOf backward_y.now backward_cb.now backward_cr.now) in
         let refusal = predictionRefusal dest (length out.old) forward forward_lengths backward backward_lengths used mb_col mb_row in
-        result ≡ predictionAnswer refusal (accepted used)
-    }
-    ensures directions {
-        let used = fieldUses motion (isPresent forward) (isPresent backward) in
-        predictionNumber result ≡ 0 → predictionDirections result ≡ Some (directionsOf used)
-    }
-    ensures buffer {
-        let used = fieldUses motion (isPresent forward) (isPresent backward) in
+        result ≡ predictionAnswer refusal (accepted used) }
+    ensures directions { let used = fieldUses motion (isPresent forward) (isPresent backward) in
+        predictionNumber result ≡ 0 → predictionDirections result ≡ Some (directionsOf used) }
+    ensures buffer { let used = fieldUses motion (isPresent forward) (isPresent backward) in
         let forward_read = readReference forward (samplesOf forward_y.now forward_cb.now forward_cr.now) in
         let backward_read = readReference backward (samplesOf backward_y.now backward_cb.now backward_cr.now) in
         let prediction = predicted rounded dest.chroma_format forward_read backward_read used mb_col mb_row in
-        out.new ≡ unlessRefused (predictionNumber result) prediction out.old
-    }
+        out.new ≡ unlessRefused (predictionNumber result) prediction out.old }
 
     // Samples given by the directions that have motion, where nothing of these is refused, are as they would be by these alone.
-    ensures unchanged {
-        let wanted = fieldWanted motion in
+    ensures unchanged { let wanted = fieldWanted motion in
         let forward_samples = samplesOf forward_y.now forward_cb.now forward_cr.now in
         let backward_samples = samplesOf backward_y.now backward_cb.now backward_cr.now in
         let refusal = predictionRefusal dest (length out.old) forward (lengthsOf forward_samples) backward (lengthsOf backward_samples) wanted mb_col mb_row in
         let prediction = predicted rounded dest.chroma_format (readReference forward forward_samples) (readReference backward backward_samples) wanted mb_col mb_row in
-        refusal ≡ 0 → (result ≡ predictionAnswer 0 (accepted wanted)) × (out.new ≡ prediction)
-    }
-    ensures backward_alone {
-        predictionNumber result ≡ backwardMissing → BackwardAlone (fieldWanted motion) × (isPresent backward ≡ false)
-    }
+        refusal ≡ 0 → (result ≡ predictionAnswer 0 (accepted wanted)) × (out.new ≡ prediction) }
+    ensures backward_alone { predictionNumber result ≡ backwardMissing → BackwardAlone (fieldWanted motion) × (isPresent backward ≡ false) }
 {
     let refusal = destination_refusal(dest, mb_col, mb_row, out.len());
     if refusal != 0 {

@@ -5,7 +5,7 @@ use mathlib.Core.List.{List}
 use Prim.Native.Nat.{ℕ, ◌+◌, ◌-◌, ◌≤◌, ◌<◌}
 use native.Mathlib.Omega.{arith}
 use lib.ListN.{length, get_or, take, drop, length-drop}
-use lib.Seq.{length-take-le, take_all, get_or-take, get_or-drop}
+use lib.Seq.{length-take-le, get_or-take, get_or-drop}
 
 -- its length
 pub part_length : (s : List ℕ) (f e : ℕ) → e ≤ length s → length (take (e - f) (drop f s)) ≡ e - f

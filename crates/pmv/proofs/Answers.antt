@@ -6,14 +6,11 @@ use mathlib.Core.Option.{Option, none, some}
 use Prim.Native.Nat.{ℕ, zero, suc}
 use native.Mathlib.Omega.{arith}
 use lib.IntN.{ℤ}
-use Rattle.combine_predictions.specs.Refusals.{or_else, unlessRefused}
+use Rattle.combine_predictions.specs.Refusals.{unlessRefused}
 use Rattle.forming_predictions.specs.SampleAnswers.{valueUnless}
 use Rattle.pmv.specs.Update.{updateRefusal, updateOutcome, updated}
-use Rattle.pmv.specs.Answers.{deltaAnswer, deltaNumber, deltaValue, rangeAnswer, rangeNumber, rangeValue, reconstructedAnswer, reconstructedNumber, reconstructedValue, vectorAnswer, vectorNumber, vectorValue, updateAnswer, updateNumber, updateValue}
+use Rattle.pmv.specs.Answers.{deltaAnswer, deltaNumber, deltaValue, reconstructedAnswer, reconstructedNumber, reconstructedValue, vectorAnswer, vectorNumber, vectorValue, updateAnswer, updateNumber, updateValue}
 use Rattle.pmv.specs.declared.component.ComputedDelta.{ComputedDelta}
-use Rattle.pmv.specs.declared.component.ComputedDelta.TheVariants as D
-use Rattle.pmv.specs.declared.component.VectorRange.{VectorRange}
-use Rattle.pmv.specs.declared.component.FoundRange.{FoundRange}
 use Rattle.pmv.specs.declared.component.ReconstructedComponent.{ReconstructedComponent}
 use Rattle.pmv.specs.declared.component.Reconstructed.{Reconstructed}
 use Rattle.pmv.specs.declared.component.Reconstructed.TheVariants as C

@@ -2,8 +2,8 @@
 -- Assumes nothing.
 use mathlib.Core.Path.{◌≡◌, refl, sym, ◌∙◌}
 use mathlib.Core.Bool.{Bool, true, false, ◌&&◌, ◌||◌}
-use Prim.Native.Nat.{ℕ, suc, ◌-◌, ◌*◌, ◌^◌, ◌≤◌}
-use native.Mathlib.Nat.{mul-le-mul, pow-le-pow_right}
+use Prim.Native.Nat.{ℕ, suc, ◌-◌, ◌^◌, ◌≤◌}
+use native.Mathlib.Nat.{pow-le-pow_right}
 use native.Mathlib.Omega.{arith}
 use lib.Dec.{eqb, leb}
 use lib.IntN.{ℤ, pos, negsuc, nat_abs}
@@ -15,12 +15,8 @@ use mir.Val.{SFits, of_z}
 use Rattle.laws.proofs.Signed.{le_yes}
 use Rattle.laws.proofs.Bounded.{Within}
 use Rattle.laws.proofs.Tests.{both, range}
-use Rattle.forming_predictions.proofs.Refusals.{none_first, no-cause}
-use Rattle.pmv.specs.Delta.{scale, is_plain, magnitude, with_sign, delta, fCodeFits, codeFits, residualRefusal, codeRefusal, fCodeRefusal, deltaRefusal}
-use Rattle.pmv.specs.Answers.{deltaAnswer}
-use Rattle.pmv.specs.declared.component.ComputedDelta.TheVariants as D
-use Rattle.pmv.specs.declared.component.MotionResidual.{MotionResidual}
-use Rattle.pmv.specs.declared.component.MotionResidual.TheVariants.{Absent}
+use Rattle.forming_predictions.proofs.Refusals.{no-cause}
+use Rattle.pmv.specs.Delta.{scale, is_plain, fCodeFits, codeFits, fCodeRefusal}
 
 -- ---- f_code and f
 pub f-code-range : (k : ℕ) → fCodeRefusal k ≡ 0 → (1 ≤ k) × (k ≤ 9)

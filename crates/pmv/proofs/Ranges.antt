@@ -9,14 +9,11 @@ use lib.Signed.{lt_z, le_z}
 use mir.Syntax.{w32}
 use mir.Val.{SFits}
 use Rattle.laws.proofs.Signed.{zp, zn, eq-z, add-z, sub-z, neg-p, neg-n, lt_yes, lt_no, le_yes, le-no, yes_lt, no_lt, yes_le, no_le}
-use Rattle.laws.proofs.Bounded.{Within, within-add, within-neg, within-mul, within_more, within-fits, fits-within}
+use Rattle.laws.proofs.Bounded.{Within, within-neg, within-fits}
 use Rattle.laws.proofs.Tests.{both}
-use Rattle.pmv.specs.Component.{range_of, in_range, vectorOf, newPredictor, fromDelta, fromDeltaRefusal}
-use Rattle.pmv.specs.Answers.{reconstructedAnswer}
+use Rattle.pmv.specs.Component.{range_of, in_range}
 use Rattle.pmv.specs.inner.Bounds.{Small}
 use Rattle.pmv.specs.declared.component.VectorRange.{VectorRange}
-use Rattle.pmv.specs.declared.component.ReconstructedComponent.{ReconstructedComponent}
-use Rattle.pmv.specs.declared.component.Reconstructed.TheVariants as C
 
 pub within-nat : (n m : ℕ) → n ≤ m → Within m (pos n)
 within-nat n m h = record { above = omega arith; below = omega arith }

@@ -1,33 +1,26 @@
 -- A vector's two parts, one after the other.
 -- Assumes nothing.
-use mathlib.Core.Path.{◌≡◌, refl, sym, ap, ◌∙◌}
+use mathlib.Core.Path.{◌≡◌, ap}
 use mathlib.Core.Bool.{Bool}
-use Prim.Native.Nat.{ℕ, zero, suc}
+use Prim.Native.Nat.{ℕ}
 use lib.IntN.{ℤ}
-use Rattle.combine_predictions.specs.Refusals.{or_else, unlessRefused}
+use Rattle.combine_predictions.specs.Refusals.{or_else}
 use Rattle.forming_predictions.specs.SampleAnswers.{valueUnless}
-use Rattle.pmv.specs.Predictors.{stored, pair_of}
-use Rattle.pmv.specs.Answers.{reconstructedAnswer, reconstructedNumber, reconstructedValue, vectorAnswer, vectorNumber, vectorValue}
-use Rattle.pmv.specs.Vector.{ported, part, partRefusal, decoded, horizontalRefusal, verticalRefusal, vectorRefusal, components, reconstructedPair, reconstructed}
-use Rattle.pmv.specs.inner.Steps.{joined}
+use Rattle.pmv.specs.Answers.{reconstructedNumber, reconstructedValue, vectorNumber, vectorValue}
+use Rattle.pmv.specs.Vector.{ported, part, partRefusal, decoded, horizontalRefusal, verticalRefusal, vectorRefusal, components, reconstructedPair}
 use Rattle.pmv.specs.declared.kinds.VectorIndex.{VectorIndex}
 use Rattle.pmv.specs.declared.kinds.Direction.{Direction}
 use Rattle.pmv.specs.declared.kinds.Component.{Component}
 use Rattle.pmv.specs.declared.kinds.MvFormat.{MvFormat}
 use Rattle.pmv.specs.declared.kinds.PictureStructure.{PictureStructure}
 use Rattle.pmv.specs.declared.component.MotionResidual.{MotionResidual}
-use Rattle.pmv.specs.declared.component.ReconstructedComponent.{ReconstructedComponent}
-use Rattle.pmv.specs.declared.component.Reconstructed.{Reconstructed}
-use Rattle.pmv.specs.declared.component.Reconstructed.TheVariants as C
 use Rattle.pmv.specs.declared.predictors.Pmv.{Pmv}
 use Rattle.pmv.specs.declared.predictors.PredictorPair.{PredictorPair}
 use Rattle.pmv.specs.declared.vector.MotionVector.{MotionVector}
 use Rattle.pmv.specs.declared.vector.DecodedComponent.{DecodedComponent}
 use Rattle.pmv.specs.declared.vector.VectorComponents.{VectorComponents}
-use Rattle.pmv.specs.declared.vector.ReconstructedVector.TheVariants as Vec
 use Rattle.pmv.specs.declared.vector.DecodedPair.{DecodedPair}
-use Rattle.pmv.specs.declared.vector.DecodedVector.{DecodedVector}
-use Rattle.pmv.proofs.Answers.{written, kept, component-all, component-refused, component-given, vector-promised}
+use Rattle.pmv.proofs.Answers.{component-all, vector-promised}
 
 -- ---- what the two arms of a match make of a component's answer and of the predictors
 

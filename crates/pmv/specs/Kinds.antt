@@ -8,37 +8,21 @@ use Rattle.std.specs.Prelude.{Bool, true, false, cond, ℕ, eqb}
 use Rattle.forming_predictions.specs.declared.FieldParity.{FieldParity}
 use Rattle.forming_predictions.specs.declared.FieldParity.TheVariants.{Top, Bottom}
 use Rattle.pmv.specs.declared.kinds.Component.{Component}
-use Rattle.pmv.specs.declared.kinds.Component.TheVariants as Component
 use Rattle.pmv.specs.declared.kinds.Direction.{Direction}
-use Rattle.pmv.specs.declared.kinds.Direction.TheVariants as Direction
 use Rattle.pmv.specs.declared.kinds.OptionDirection.{OptionDirection}
-use Rattle.pmv.specs.declared.kinds.OptionDirection.TheVariants as OptionDirection
 use Rattle.pmv.specs.declared.kinds.VectorIndex.{VectorIndex}
-use Rattle.pmv.specs.declared.kinds.VectorIndex.TheVariants as VectorIndex
 use Rattle.pmv.specs.declared.kinds.OptionVectorIndex.{OptionVectorIndex}
-use Rattle.pmv.specs.declared.kinds.OptionVectorIndex.TheVariants as OptionVectorIndex
 use Rattle.pmv.specs.declared.kinds.MvFormat.{MvFormat}
-use Rattle.pmv.specs.declared.kinds.MvFormat.TheVariants as MvFormat
 use Rattle.pmv.specs.declared.kinds.OptionMvFormat.{OptionMvFormat}
-use Rattle.pmv.specs.declared.kinds.OptionMvFormat.TheVariants as OptionMvFormat
 use Rattle.pmv.specs.declared.kinds.PictureStructure.{PictureStructure}
-use Rattle.pmv.specs.declared.kinds.PictureStructure.TheVariants as PictureStructure
 use Rattle.pmv.specs.declared.kinds.OptionPictureStructure.{OptionPictureStructure}
-use Rattle.pmv.specs.declared.kinds.OptionPictureStructure.TheVariants as OptionPictureStructure
 use Rattle.pmv.specs.declared.kinds.PredictionType.{PredictionType}
-use Rattle.pmv.specs.declared.kinds.PredictionType.TheVariants as PredictionType
 use Rattle.pmv.specs.declared.kinds.OptionPredictionType.{OptionPredictionType}
-use Rattle.pmv.specs.declared.kinds.OptionPredictionType.TheVariants as OptionPredictionType
 use Rattle.pmv.specs.declared.kinds.PictureCodingType.{PictureCodingType}
-use Rattle.pmv.specs.declared.kinds.PictureCodingType.TheVariants as PictureCodingType
 use Rattle.pmv.specs.declared.kinds.ChromaFormat.{ChromaFormat}
-use Rattle.pmv.specs.declared.kinds.ChromaFormat.TheVariants as ChromaFormat
 use Rattle.pmv.specs.declared.kinds.OptionChromaFormat.{OptionChromaFormat}
-use Rattle.pmv.specs.declared.kinds.OptionChromaFormat.TheVariants as OptionChromaFormat
 use Rattle.pmv.specs.declared.kinds.OptionFieldParity.{OptionFieldParity}
-use Rattle.pmv.specs.declared.kinds.OptionFieldParity.TheVariants as OptionFieldParity
 use Rattle.pmv.specs.declared.kinds.OptionFlag.{OptionFlag}
-use Rattle.pmv.specs.declared.kinds.OptionFlag.TheVariants as OptionFlag
 
 -- t of Table 7-7
 abbrev pub componentNumber : Component → ℕ

@@ -501,7 +501,8 @@ fn predicts(
         motion,
         out,
     );
-    ((number_of(given) == answer) & (directions_of(given) == used)) & is_as_listed(out, before, after)
+    ((number_of(given) == answer) & (directions_of(given) == used))
+        & is_as_listed(out, before, after)
 }
 
 /// The same, with the first bytes of `room` as the output. Those behind them have to stay as they are, which is as in `kept`.

@@ -2,7 +2,6 @@
 use Rattle.std.specs.Prelude.{◌≡◌, not, List, ◌++◌, ℕ, ◌≤◌, eqb}
 use Rattle.combine_predictions.specs.Refusals.{wrongLength, cause, or_else}
 use Rattle.combine_predictions.specs.declared.PredictionDirection.{PredictionDirection}
-use Rattle.combine_predictions.specs.declared.PredictionDirection.TheVariants as PredictionDirection
 use Rattle.forming_predictions.specs.Means.{rounded}
 use Rattle.pmv.specs.declared.kinds.ChromaFormat.{ChromaFormat}
 use Rattle.inter_reconstruction.specs.Components.{ColourComponent, luma, cb, cr, blockBytes, macroblockBytes}

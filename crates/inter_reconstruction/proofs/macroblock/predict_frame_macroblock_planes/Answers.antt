@@ -1,7 +1,7 @@
 -- A direction that is not used is not read, so the bytes of the one direction are the macroblock's. What was accepted by the directions that have motion
 -- uses these.
 -- Assumes nothing.
-use Rattle.std.proofs.Common.{length, rules, arith}
+use Rattle.std.proofs.Common.{length, arith}
 use Rattle.std.proofs.lemmas.Grind.{common_steps}
 use Rattle.forming_predictions.specs.Means.{rounded}
 use Rattle.inter_reconstruction.specs.Frames.{samplesOf, lengthsOf, readReference}
