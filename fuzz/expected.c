@@ -268,9 +268,6 @@ static uint32_t macroblock_refusal(const struct a_case *c)
     for (i = 0; i < 2; i++) {
         used[i] = direction_used(c, i) || (WRONG == UNUSED_IS_LOOKED_AT && c->references[i].present);
     }
-    if (WRONG == GEOMETRY_BEFORE_ABSENCE && used[0] && c->references[0].present && other_geometry(c, 0)) {
-        return 15;
-    }
     for (i = 0; i < 2; i++) {
         if (used[i] && !c->references[i].present) {
             return i == 0 ? 16 : 17;
