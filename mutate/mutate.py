@@ -28,7 +28,7 @@ JUDGES = {
     "forming_predictions": ["replay_forming_predictions", "fuzz"],
     "pmv": ["replay_pmv", "replay_inter_reconstruction", "fuzz"],
     "inter_reconstruction": ["replay_inter_reconstruction", "replay_placing", "run_drift", "fuzz"],
-    "fozdrik": ["replay_fozdrik", "fuzz"],
+    "entry_points": ["replay_fozdrik", "fuzz"],
 }
 # files that the crate's first judge does not run, and what does
 RATHER = {
@@ -42,7 +42,7 @@ CASES = {
     "forming_predictions": ["FormingFew", "Forming", "Worked", "Vectors", "Macroblocks", "Placing", "Runs"],
     "pmv": ["VectorsFew", "Vectors", "Entries", "Worked", "Macroblocks", "Runs"],
     "inter_reconstruction": ["MacroblocksFew", "PlacingFew", "Macroblocks", "Placing", "RunsFew", "Runs", "Entries"],
-    "fozdrik": ["EntriesFew", "Entries"],
+    "entry_points": ["EntriesFew", "Entries"],
     "drift": ["StepsFew", "Steps", "RunsFew", "Runs"],
 }
 FIRST = {"inter_reconstruction/specs/Placing.antt": "PlacingFew", "pmv/specs/Kinds.antt": "Entries"}
@@ -54,7 +54,7 @@ NEEDS = {
     "Vectors": LAYERS[:4],
     "Macroblocks": LAYERS,
     "Placing": LAYERS,
-    "Entries": LAYERS + ["fozdrik"],
+    "Entries": LAYERS + ["entry_points"],
     "Worked": LAYERS[:4] + ["worked_cases"],
     "Runs": LAYERS + ["drift", "worked_runs"],
     "Steps": LAYERS + ["drift", "worked_runs"],
@@ -145,7 +145,7 @@ class DefinitionCourt:
     """Judges mutants of definitions: for each module of cases one crate with the definitions and that module."""
 
     def __init__(self, rt, folder, crates):
-        self.rt, self.folder = rt, folder
+        self.kit, self.folder = judges.Kit(rt), folder
         modules, specs = cases.modules(REPOSITORY)
         for name in sorted({n for crate in crates for n in CASES[crate]}):
             needs = NEEDS[name.removesuffix("Few")]
@@ -163,7 +163,8 @@ class DefinitionCourt:
     def checked(self, name):
         kept = os.path.join(self.folder, name, "kept")
         os.makedirs(kept, exist_ok=True)
-        status, said = judges.run([self.rt, "check", self.path(name), "--incremental", kept], CHECK_SECONDS)
+        words = [*self.kit.check, "--crate-name", flat.CRATE, self.path(name, "src", "lib.rt"), "--incremental", kept, "--jobs", "1"]
+        status, said = judges.run(words, CHECK_SECONDS)
         said = said.decode(errors="replace")
         if status is None:
             return NOTICED, f"the cases {name}: {judges.LATE}"
