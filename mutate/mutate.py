@@ -104,41 +104,54 @@ def some_of(mutants, named):
     return [m for m in mutants if m.key in kept or m.key in named]
 
 
+def judge_names(crates):
+    return sorted({name for crate in crates for name in JUDGES[crate]})
+
+
 class CodeCourt:
     """Judges mutants of the code, in a folder of its own."""
 
-    def __init__(self, rt, folder, crates):
+    def __init__(self, rt, folder, programs, crates):
         kit = judges.Kit(rt)
-        self.tree = judges.Tree(REPOSITORY, os.path.join(folder, "tree"), kit)
-        compiler = judges.Compiler(kit, os.path.join(folder, "made"))
+        self.library = judges.Library(kit, REPOSITORY, folder)
+        objects = judges.Objects(kit, REPOSITORY, programs)
         self.judges = {}
-        for name in sorted({n for crate in crates for n in JUDGES[crate]}):
+        for name in judge_names(crates):
             if name == "fuzz":
-                judge = judges.Fuzzer(self.tree, compiler, REPOSITORY, FUZZ_CASES)
+                self.judges[name] = judges.Fuzzer(self.library, REPOSITORY, FUZZ_CASES)
             else:
-                judge = judges.Program(name, self.tree, compiler, REPOSITORY)
-            self.judges[name] = judge
-            for build in judge.builds:
-                verdict, why = judge.judged(build)
-                if verdict != SURVIVED:
-                    raise judges.Failure(f"without a mutation, {name} is {verdict}: {why}")
+                self.judges[name] = judges.Program(name, objects, self.library, REPOSITORY)
+        module, said = self.library.module()
+        if module is None:
+            raise judges.Failure(f"without a mutation, the compiler refuses the code: {said}")
+        for build in (judges.CHECKED, judges.SANITIZED):
+            compiled = self.library.object(module, build)
+            for name, judge in self.judges.items():
+                if build in judge.builds:
+                    verdict, why = judge.judged(compiled, build)
+                    if verdict != SURVIVED:
+                        raise judges.Failure(f"without a mutation, {name} is {verdict}, {build}: {why}")
 
     def judged(self, mutant):
-        path = self.tree.path(mutant.path)
+        path = self.library.path(mutant.path)
         text = flat.read(path)
         edit = mutant.edit
         names = sorted(JUDGES[mutant.crate], key=lambda n: n != RATHER.get(mutant.path))
         try:
             flat.write(path, text[: edit.start] + edit.text + text[edit.end :])
-            # what all let pass is run by the first of them in its other builds
-            trials = [(name, judges.PLAIN) for name in names] + [(names[0], build) for build in self.judges[names[0]].builds[1:]]
-            for name, build in trials:
-                verdict, why = self.judges[name].judged(build)
-                if verdict != SURVIVED:
-                    return verdict, f"{name}, {build}: {why}"
-            return SURVIVED, ""
+            module, said = self.library.module()
         finally:
             flat.write(path, text)
+        if module is None:
+            return REFUSED, said
+        # what all let pass is run by the first of them with the address sanitizer
+        for build, asked in ((judges.CHECKED, names), (judges.SANITIZED, names[:1])):
+            compiled = self.library.object(module, build)
+            for name in asked:
+                verdict, why = self.judges[name].judged(compiled, build)
+                if verdict != SURVIVED:
+                    return verdict, f"{name}, {build}: {why}"
+        return SURVIVED, ""
 
 
 class DefinitionCourt:
@@ -247,12 +260,15 @@ courts = {}
 
 def open_courts(folder, rt, todo):
     number = multiprocessing.current_process()._identity
-    folder = os.path.join(folder, str(number[0] if number else 0))
-    for part, court in (("src", CodeCourt), ("specs", DefinitionCourt)):
+    own = os.path.join(folder, str(number[0] if number else 0))
+    for part in ("src", "specs"):
         crates = [crate for p, crate in todo if p == part]
         if crates:
             try:
-                courts[part] = court(rt, os.path.join(folder, part), crates)
+                if part == "src":
+                    courts[part] = CodeCourt(rt, os.path.join(own, part), os.path.join(folder, "programs"), crates)
+                else:
+                    courts[part] = DefinitionCourt(rt, os.path.join(own, part), crates)
             except (judges.Failure, ValueError) as failure:
                 courts[part] = failure
 
@@ -308,6 +324,13 @@ def main():
     left = [m for m in todo if m.key not in known]
     print(f"{len(todo)} mutants; verdicts go to {os.path.relpath(path)}", flush=True)
     rows_left = list(dict.fromkeys((m.part, m.crate) for m in left))
+    programs = [n for n in judge_names(crate for part, crate in rows_left if part == "src") if n != "fuzz"]
+    if programs:
+        try:
+            judges.Objects(judges.Kit(o.rt), REPOSITORY, os.path.join(o.folder, "programs")).made(programs)
+        except judges.Failure as failure:
+            print(f"the code cannot be tried: {failure}")
+            return 1
     with open(path, "w") as log, multiprocessing.Pool(o.jobs, open_courts, (o.folder, o.rt, rows_left)) as pool:
         log.write(now + "\n")
         for n, (mutant, (verdict, why)) in enumerate(itertools.chain(before, pool.imap(try_one, left)), 1):
