@@ -62,7 +62,7 @@ NEEDS = {
 # of one kind in one function so many at most, evenly, unless all are asked for: long calls have dozens that are much alike
 MOST = 4
 # a check of a definition's mutant that takes longer computes something absurd
-CHECK_SECONDS = 90
+CHECK_SECONDS = 300
 
 
 class Mutant:
@@ -225,9 +225,9 @@ def read_survivors():
     return reasons
 
 
-def state():
+def state(rt):
     """a digest of all that a verdict depends on"""
-    digest = hashlib.sha256()
+    digest = hashlib.sha256(judges.run([rt, "version"])[1])
     for folder in ("crates", "fuzz", "include", "mutate"):
         for where, inside, names in os.walk(os.path.join(REPOSITORY, folder)):
             inside.sort()
@@ -318,7 +318,7 @@ def main():
     survivors, failed, unexplained, late = set(), [], [], 0
     os.makedirs(o.folder, exist_ok=True)
     path = os.path.join(o.folder, "verdicts.txt")
-    now = state()
+    now = state(o.rt)
     known = read_verdicts(path, now) if o.resume else {}
     before = [(m, known[m.key]) for m in todo if m.key in known]
     left = [m for m in todo if m.key not in known]
