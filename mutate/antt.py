@@ -14,33 +14,45 @@ OPERATORS = {
     "≤": "<", "<": "≤",
 }  # fmt: skip
 NAMES = {
-    "ltb": "leb", "leb": "ltb", "ltZ": "leZ", "leZ": "ltZ", "eqb": "leb", "true": "false", "false": "true", "take": "drop", "drop": "take",
+    "ltb": "leb", "leb": "ltb", "lt_z": "le_z", "le_z": "lt_z", "eqb": "leb", "true": "false", "false": "true", "take": "drop", "drop": "take",
     "floorHalf": "truncHalf", "truncHalf": "floorHalf", "mean2": "mean4", "pos": "negsuc", "negsuc": "pos", "none": "some 0",
     "chromaHorizontal": "chromaVertical", "chromaVertical": "chromaHorizontal", "chromaColumns": "chromaLines", "chromaLines": "chromaColumns",
-    "columnsOf": "linesOf", "linesOf": "columnsOf", "blockWidth": "blockHeight", "blockHeight": "blockWidth", "luma": "cb", "cb": "cr", "cr": "cb",
-    "rowAt": "columnAt", "columnAt": "rowAt", "firstColumn": "firstRow", "firstRow": "firstColumn", "forwardMissing": "backwardMissing",
+    "columnsOf": "lines_of", "lines_of": "columnsOf", "blockWidth": "blockHeight", "blockHeight": "blockWidth", "luma": "cb", "cb": "cr", "cr": "cb",
+    "row_at": "columnAt", "columnAt": "row_at", "firstColumn": "firstRow", "firstRow": "firstColumn", "forwardMissing": "backwardMissing",
     "backwardMissing": "forwardMissing", "horizontalRefusal": "verticalRefusal", "verticalRefusal": "horizontalRefusal",
     "raised": "lowered", "lowered": "raised", "frame": "field Top",
 }  # fmt: skip
 # fields that are mistaken for each other
 FIELDS = {
     "width": "height", "horizontal": "vertical", "forward": "backward", "top": "bottom", "low": "high", "cb": "cr", "y": "cb", "column": "row",
-    "one": "single", "single": "one", "two": "join", "join": "two", "«motion_code_horiz»": "«motion_code_vert»",
-    "«motion_residual_horiz»": "«motion_residual_vert»", "range": "high", "«macroblock_motion_forward»": "«macroblock_motion_backward»",
-    "«macroblock_intra»": "«concealment_motion_vectors»",
+    "one": "single", "single": "one", "two": "join", "join": "two", "motion_code_horiz": "motion_code_vert",
+    "motion_residual_horiz": "motion_residual_vert", "range": "high", "macroblock_motion_forward": "macroblock_motion_backward",
+    "macroblock_intra": "concealment_motion_vectors",
 }  # fmt: skip
 FIELDS.update({v: k for k, v in list(FIELDS.items()) if v not in FIELDS})
 
-# where a name stands that a mutant may need and its file does not use
-BRING = {
-    "Prim.Native.Nat": ["_+_", "_-_", "_*_", "_/_", "_%_", "_^_", "_≤_", "_<_"], "lib.Dec": ["ltb", "leb", "eqb"], "lib.Signed": ["ltZ", "leZ"],
-    "mathlib.Core.Bool": ["true", "false", "_&&_", "_||_"], "lib.IntN": ["pos", "negsuc", "_+ℤ_", "_-ℤ_", "_*ℤ_"], "lib.ListN": ["take", "drop"],
-    "mathlib.Core.Option": ["some", "none"],
+# where the logic has the names of the library's prelude and of its facades; a mutant may need one that its file does not use
+LOGIC = {
+    "mathlib.Core.Path": ["◌≡◌", "refl"], "mathlib.Core.Bool": ["Bool", "true", "false", "cond", "not", "◌&&◌", "◌||◌"],
+    "mathlib.Core.List": ["List", "[]", "◌∷◌", "◌++◌", "map"], "mathlib.Core.Option": ["Option", "none", "some"],
+    "Prim.Native.Nat": ["ℕ", "zero", "suc", "◌+◌", "◌-◌", "◌*◌", "◌/◌", "◌%◌", "◌^◌", "◌≤◌", "◌<◌", "min"],
+    "lib.Dec": ["eqb", "ltb", "leb"], "lib.ListN": ["length", "get_or", "take", "drop", "set", "replicate"],
+    "lib.IntN": ["ℤ", "pos", "negsuc", "◌+ℤ◌", "◌-ℤ◌", "◌*ℤ◌", "neg_ℤ", "nat_abs"], "lib.Signed": ["lt_z", "le_z"], "denote.Ref": ["Bor"],
 }  # fmt: skip
 
 
 def tokens_of(text, start, end):
-    return [(m.lastgroup, m.group(), m.start()) for m in TOKENS.finditer(text, start, end) if m.lastgroup not in ("space", "comment")]
+    found = []
+    for m in TOKENS.finditer(text, start, end):
+        if m.lastgroup in ("space", "comment"):
+            continue
+        # a variable's fields are words of their own; a module's members are not
+        parts = re.findall(r"\.[\w-]+|^[^.]+", m.group()) if re.fullmatch(r"[a-z][\w-]*(\.[\w-]+)+|(\.[\w-]+){2,}", m.group()) else [m.group()]
+        at = m.start()
+        for part in parts:
+            found.append((m.lastgroup, part, at))
+            at += len(part)
+    return found
 
 
 def signature(text):
@@ -167,8 +179,8 @@ class Mutants:
             if depth == 0 or (depth == 1 and word == "("):
                 words.append(word)
         words = [w for w in words if w not in "()" or w == ")"]
-        if "_" in definition.name and re.search(r"_\S+_", definition.name):  # an operator between its arguments
-            words = [w for w in words if w != definition.name.strip("_")]
+        if "◌" in definition.name:  # an operator between its arguments
+            words = [w for w in words if w != definition.name.strip("◌")]
         else:
             words = words[1:]
         for word, kind in zip(words, [t for t in definition.types[:-1] if not t.startswith("{")]):
@@ -193,9 +205,13 @@ class Mutants:
         """two neighbouring arguments of one type"""
         kinds = ["Bool", "A", "A"] if word == "cond" else [t for t in self.types[word][:-1] if not t.startswith("{")]
         parts, k = [], i + 1
-        while k < len(tokens) and len(parts) < len(kinds):
+        while k < len(tokens):
             group, text, at = tokens[k]
-            if text in ("(", "{"):
+            if parts and at == parts[-1][1] and re.match(r"\.[\w-]", text):  # a field of the argument before
+                parts[-1] = (parts[-1][0], at + len(text))
+            elif len(parts) == len(kinds):
+                break
+            elif text in ("(", "{"):
                 depth, first = 1, k
                 while depth:
                     k += 1
@@ -223,15 +239,15 @@ def brought(text, edit):
     used = set(re.findall(r"[^\s(){},.]+", "\n".join(re.findall(r"^use [^\n]*", text, re.M))))
     wanted = set(edit.text.split())
     lines = []
-    for module, names in BRING.items():
+    for module, names in LOGIC.items():
         for name in names:
-            if name.strip("_") in wanted and name not in used:
+            if name.strip("◌") in wanted and name not in used:
                 lines.append(f"use {module}.{{{name}}}")
     others = {
-        "truncHalf": "Rattle·pmv.specs.Chroma", "floorHalf": "Rattle·forming_predictions.specs.Splitting", "mean4": "Rattle·forming_predictions.specs.Means",
-        "chromaVertical": "Rattle·pmv.specs.Chroma", "columnsOf": "Rattle·inter_reconstruction.specs.Components",
-        "linesOf": "Rattle·inter_reconstruction.specs.Components", "blockHeight": "Rattle·inter_reconstruction.specs.Components",
-        "Top": "Rattle·forming_predictions.specs.declared.FieldParity.the-variants",
+        "truncHalf": "Rattle.pmv.specs.Chroma", "floorHalf": "Rattle.forming_predictions.specs.Splitting", "mean4": "Rattle.forming_predictions.specs.Means",
+        "chromaVertical": "Rattle.pmv.specs.Chroma", "columnsOf": "Rattle.inter_reconstruction.specs.Components",
+        "lines_of": "Rattle.inter_reconstruction.specs.Components", "blockHeight": "Rattle.inter_reconstruction.specs.Components",
+        "Top": "Rattle.forming_predictions.specs.declared.FieldParity.TheVariants",
     }  # fmt: skip
     for name, module in others.items():
         if name in wanted and name not in used and not re.search(rf"(abbrev|unfoldable) pub {name} ", text):

@@ -91,14 +91,14 @@ class Module:
         return COMMON + self.head.strip() + "\n\n" + "\n\n".join(reversed(kept)) + "\n"
 
 
-COMMON = """use mathlib.Core.Path.{_≡_, refl}
+COMMON = """use mathlib.Core.Path.{◌≡◌, refl}
 use mathlib.Core.Bool.{Bool, true, false, cond}
-use mathlib.Core.List.{List, [], _∷_, _++_}
+use mathlib.Core.List.{List, [], ◌∷◌, ◌++◌}
 use mathlib.Core.Option.{Option, none, some}
-use Prim.Native.Nat.{ℕ, zero, suc, _+_, _-_, _*_, _/_, _%_, _^_}
+use Prim.Native.Nat.{ℕ, zero, suc, ◌+◌, ◌-◌, ◌*◌, ◌/◌, ◌%◌, ◌^◌}
 use lib.IntN.{ℤ, pos, negsuc}
-use lib.ListN.{length, getD, replicate}
-use Rattle·laws.specs.Tabulate.{tabulate}
+use lib.ListN.{length, get_or, replicate}
+use Rattle.laws.specs.Tabulate.{tabulate}
 """
 
 FILLED = """-- what a buffer of n bytes holds before a call
@@ -112,12 +112,12 @@ filled first n = tabulate n (λ (k : ℕ). (first + k) % 256)"""
 def averaging(repository):
     m = Module(
         """
-use denote.Ref.{RefT}
-use Rattle·combine_predictions.specs.Refusals.{unlessRefused}
-use Rattle·combine_predictions.specs.Averaging.{averaged, averageAnswer, numberOf}
-use Rattle·combine_predictions.specs.Choosing.{chosen}
-use Rattle·combine_predictions.specs.declared.Averaged.the-variants.{Done, Refused}
-use Rattle·combine_predictions.specs.declared.PredictionDirection.the-variants.{Forward, Backward, Skipped}
+use Rattle.std.specs.Borrow.{Bor}
+use Rattle.combine_predictions.specs.Refusals.{unlessRefused}
+use Rattle.combine_predictions.specs.Averaging.{averaged, averageAnswer, number_of}
+use Rattle.combine_predictions.specs.Choosing.{chosen}
+use Rattle.combine_predictions.specs.declared.Averaged.TheVariants.{Done, Refused}
+use Rattle.combine_predictions.specs.declared.PredictionDirection.TheVariants.{Forward, Backward, Skipped}
 """,
         "tabulate",
     )
@@ -127,13 +127,13 @@ use Rattle·combine_predictions.specs.declared.PredictionDirection.the-variants.
         forward, backward, answer = hexed(c[1]), hexed(c[2]), int(c[5])
         said = f"Refused {answer}" if answer else "Done"
         call = f"averageAnswer {len(forward)} {len(backward)} {c[4]}"
-        after = f"unlessRefused (numberOf ({call})) (averaged {lst(forward)} {lst(backward)}) (filled {c[3]} {c[4]})"
+        after = f"unlessRefused (number_of ({call})) (averaged {lst(forward)} {lst(backward)}) (filled {c[3]} {c[4]})"
         m.case(f"{call} ≡ {said}", f"{after} ≡ {lst(hexed(c[6]))}")
     directions = {"0": "Forward", "1": "Backward", "3": "Skipped"}
     for group, c in selection([x for x in cases if x[1][0] == "2" and x[1][2] != x[1][3]], lambda x: x[1][1], 1, 9):
         side = "f" if c[4] == c[2] else "b"
         m.count += 1
-        m.parts.append(f"pub case{m.count} : (f b : RefT (List ℕ)) → chosen {directions[c[1]]} f b ≡ {side}\ncase{m.count} f b = refl")
+        m.parts.append(f"pub case{m.count} : (f b : Bor (List ℕ)) → chosen {directions[c[1]]} f b ≡ {side}\ncase{m.count} f b = refl")
     return m
 
 
@@ -150,21 +150,21 @@ def side(v, n):
 def forming(repository):
     m = Module(
         """
-use Rattle·combine_predictions.specs.Refusals.{unlessRefused}
-use Rattle·forming_predictions.specs.Splitting.{floorHalf, halfFlag, IsSplit, horizontalHalf, verticalHalf}
-use Rattle·forming_predictions.specs.Lines.{frame, field, fieldLines, clampTo, rowOf, sampleAt}
-use Rattle·forming_predictions.specs.Means.{rounded}
-use Rattle·forming_predictions.specs.Forming.{combined, formed, blockOf, predictedBlock}
-use Rattle·forming_predictions.specs.Refusals.{planeFits, positionFits, blockSideFits, planeRefusal, sampleRefusal, blockRefusal}
-use Rattle·forming_predictions.specs.SampleAnswers.{sampleNumber, sampleValue, valueUnless, sampleAnswer}
-use Rattle·forming_predictions.specs.BlockAnswers.{blockNumber, blockAnswer}
-use Rattle·forming_predictions.specs.declared.ComponentSplit.{ComponentSplit}
-use Rattle·forming_predictions.specs.declared.FieldParity.the-variants.{Top, Bottom}
-use Rattle·forming_predictions.specs.declared.HalfPattern.the-variants.{Integer, HalfHorizontal, HalfVertical, HalfBoth}
-use Rattle·forming_predictions.specs.declared.Sampled.the-variants.{Sample, Refused}
-use Rattle·forming_predictions.specs.declared.Predicted.the-variants as Block
+use Rattle.combine_predictions.specs.Refusals.{unlessRefused}
+use Rattle.forming_predictions.specs.Splitting.{floorHalf, halfFlag, IsSplit, horizontalHalf, verticalHalf}
+use Rattle.forming_predictions.specs.Lines.{frame, field, fieldLines, clampTo, row_of, sampleAt}
+use Rattle.forming_predictions.specs.Means.{rounded}
+use Rattle.forming_predictions.specs.Forming.{combined, formed, block_of, predictedBlock}
+use Rattle.forming_predictions.specs.Refusals.{planeFits, positionFits, blockSideFits, planeRefusal, sampleRefusal, blockRefusal}
+use Rattle.forming_predictions.specs.SampleAnswers.{sampleNumber, sampleValue, valueUnless, sampleAnswer}
+use Rattle.forming_predictions.specs.BlockAnswers.{blockNumber, blockAnswer}
+use Rattle.forming_predictions.specs.declared.ComponentSplit.{ComponentSplit}
+use Rattle.forming_predictions.specs.declared.FieldParity.TheVariants.{Top, Bottom}
+use Rattle.forming_predictions.specs.declared.HalfPattern.TheVariants.{Integer, HalfHorizontal, HalfVertical, HalfBoth}
+use Rattle.forming_predictions.specs.declared.Sampled.TheVariants.{Sample, Refused}
+use Rattle.forming_predictions.specs.declared.Predicted.TheVariants as Block
 """,
-        "tabulate floorHalf halfFlag fieldLines clampTo rowOf sampleAt combined formed blockOf planeFits positionFits blockSideFits "
+        "tabulate floorHalf halfFlag fieldLines clampTo row_of sampleAt combined formed block_of planeFits positionFits blockSideFits "
         "sampleRefusal blockRefusal",
     )
     m.define(FILLED)
@@ -181,7 +181,7 @@ use Rattle·forming_predictions.specs.declared.Predicted.the-variants as Block
             called.append((group, c, plane))
     kind = lambda k: [x for x in called if x[1][0] == k]
     for group, c, _ in selection(kind("1"), lambda x: (int(x[1][1]) < 0, int(x[1][1]) % 4, len(x[1][1]) // 4), 2, 30):
-        split = f"record {{ «int_vec» = {z(c[2])}; «half_flag» = {flag(c[3])} }}"
+        split = f"record {{ int_vec = {z(c[2])}; half_flag = {flag(c[3])} }}"
         m.case(f"floorHalf {z(c[1])} ≡ {z(c[2])}", f"halfFlag {z(c[1])} ≡ {flag(c[3])}")
         if abs(int(c[1])) < 4:
             m.count += 1
@@ -291,33 +291,33 @@ def residual(present, value):
 
 
 PMV_HEAD = """
-use Rattle·forming_predictions.specs.Splitting.{floorHalf}
-use Rattle·pmv.specs.Delta.{scale, isPlain, delta, fCodeFits, codeFits, fCodeRefusal, codeRefusal, deltaRefusal}
-use Rattle·pmv.specs.Component.{rangeOf, halves, wrapped, fromDelta, fromDeltaRefusal, deltaOf, componentOf, componentRefusal}
-use Rattle·pmv.specs.Chroma.{truncHalf, scaled}
-use Rattle·pmv.specs.Predictors.{predictor, stored, zeroed, pairOf, pairStored, firstCopied}
-use Rattle·pmv.specs.Vector.{ported, decoded, part, partRefusal, reconstructedPair, vectorRefusal, components, reconstructed}
-use Rattle·pmv.specs.Update.{decidedRefusal, decidedOutcome, updateRefusal, updateOutcome, outcomeNumber, updated, spatialTemporalReset}
-use Rattle·pmv.specs.Answers.{deltaAnswer, deltaNumber, deltaValue, rangeAnswer, rangeNumber, rangeValue, reconstructedAnswer, reconstructedNumber, reconstructedValue, vectorAnswer, vectorNumber, vectorValue, updateNumber, updateValue}
-use Rattle·pmv.specs.declared.component.MotionResidual.the-variants as Residual
-use Rattle·pmv.specs.declared.component.ComputedDelta.the-variants as D
-use Rattle·pmv.specs.declared.component.FoundRange.the-variants as Found
-use Rattle·pmv.specs.declared.component.VectorRange.{VectorRange}
-use Rattle·pmv.specs.declared.component.ReconstructedComponent.{ReconstructedComponent}
-use Rattle·pmv.specs.declared.component.Reconstructed.the-variants as C
-use Rattle·pmv.specs.declared.vector.MotionVector.{MotionVector}
-use Rattle·pmv.specs.declared.vector.ReconstructedVector.the-variants as Vec
-use Rattle·pmv.specs.declared.update.PmvUpdateContext.{PmvUpdateContext}
-use Rattle·pmv.specs.declared.update.PmvUpdateOutcome.the-variants as Outcome
-use Rattle·pmv.specs.declared.update.Updated.the-variants as U
-use Rattle·pmv.specs.declared.predictors.Pmv.{Pmv}
-use Rattle·pmv.specs.declared.kinds.MotionType.the-variants as Motion
-use Rattle·pmv.specs.declared.kinds.MotionType.{MotionType}
-use Rattle·pmv.specs.declared.kinds.PictureStructure.{PictureStructure}
-use Rattle·pmv.specs.declared.component.MotionResidual.{MotionResidual}
-""" + "".join(f"use Rattle·pmv.specs.declared.kinds.{name}.the-variants as {name}\n" for name in KINDS if name != "FieldParity")
+use Rattle.forming_predictions.specs.Splitting.{floorHalf}
+use Rattle.pmv.specs.Delta.{scale, is_plain, delta, fCodeFits, codeFits, fCodeRefusal, codeRefusal, deltaRefusal}
+use Rattle.pmv.specs.Component.{range_of, halves, wrapped, fromDelta, fromDeltaRefusal, deltaOf, componentOf, componentRefusal}
+use Rattle.pmv.specs.Chroma.{truncHalf, scaled}
+use Rattle.pmv.specs.Predictors.{predictor, stored, zeroed, pair_of, pairStored, firstCopied}
+use Rattle.pmv.specs.Vector.{ported, decoded, part, partRefusal, reconstructedPair, vectorRefusal, components, reconstructed}
+use Rattle.pmv.specs.Update.{decidedRefusal, decidedOutcome, updateRefusal, updateOutcome, outcomeNumber, updated, spatialTemporalReset}
+use Rattle.pmv.specs.Answers.{deltaAnswer, deltaNumber, deltaValue, rangeAnswer, rangeNumber, rangeValue, reconstructedAnswer, reconstructedNumber, reconstructedValue, vectorAnswer, vectorNumber, vectorValue, updateNumber, updateValue}
+use Rattle.pmv.specs.declared.component.MotionResidual.TheVariants as Residual
+use Rattle.pmv.specs.declared.component.ComputedDelta.TheVariants as D
+use Rattle.pmv.specs.declared.component.FoundRange.TheVariants as Found
+use Rattle.pmv.specs.declared.component.VectorRange.{VectorRange}
+use Rattle.pmv.specs.declared.component.ReconstructedComponent.{ReconstructedComponent}
+use Rattle.pmv.specs.declared.component.Reconstructed.TheVariants as C
+use Rattle.pmv.specs.declared.vector.MotionVector.{MotionVector}
+use Rattle.pmv.specs.declared.vector.ReconstructedVector.TheVariants as Vec
+use Rattle.pmv.specs.declared.update.PmvUpdateContext.{PmvUpdateContext}
+use Rattle.pmv.specs.declared.update.PmvUpdateOutcome.TheVariants as Outcome
+use Rattle.pmv.specs.declared.update.Updated.TheVariants as U
+use Rattle.pmv.specs.declared.predictors.Pmv.{Pmv}
+use Rattle.pmv.specs.declared.kinds.MotionType.TheVariants as Motion
+use Rattle.pmv.specs.declared.kinds.MotionType.{MotionType}
+use Rattle.pmv.specs.declared.kinds.PictureStructure.{PictureStructure}
+use Rattle.pmv.specs.declared.component.MotionResidual.{MotionResidual}
+""" + "".join(f"use Rattle.pmv.specs.declared.kinds.{name}.TheVariants as {name}\n" for name in KINDS if name != "FieldParity")
 PMV_UNFOLDING = (
-    "floorHalf scale isPlain delta fCodeFits codeFits codeRefusal deltaRefusal rangeOf halves wrapped fromDelta fromDeltaRefusal truncHalf "
+    "floorHalf scale is_plain delta fCodeFits codeFits codeRefusal deltaRefusal range_of halves wrapped fromDelta fromDeltaRefusal truncHalf "
     "scaled decoded reconstructedPair reconstructed decidedRefusal decidedOutcome updated spatialTemporalReset"
 )
 PMV_HELP = """abbrev eight : ℤ → ℤ → ℤ → ℤ → ℤ → ℤ → ℤ → ℤ → Pmv
@@ -327,13 +327,13 @@ abbrev range : ℤ → ℤ → ℤ → VectorRange
 range a b c = record { low = a; high = b; range = c }
 
 abbrev component : ℤ → ℤ → ℤ → ℤ → ReconstructedComponent
-component v p d r = record { «vector_prime» = v; «new_pmv» = p; delta = d; range = r }
+component v p d r = record { vector_prime = v; new_pmv = p; delta = d; range = r }
 
 abbrev vector : ℤ → MotionResidual → ℤ → MotionResidual → MotionVector
-vector h rh v rv = record { «motion_code_horiz» = h; «motion_residual_horiz» = rh; «motion_code_vert» = v; «motion_residual_vert» = rv }
+vector h rh v rv = record { motion_code_horiz = h; motion_residual_horiz = rh; motion_code_vert = v; motion_residual_vert = rv }
 
 abbrev context : PictureStructure → MotionType → Bool → Bool → Bool → Bool → PmvUpdateContext
-context p t f b i c = record { «picture_structure» = p; «prediction_type» = t; «macroblock_motion_forward» = f; «macroblock_motion_backward» = b; «macroblock_intra» = i; «concealment_motion_vectors» = c }"""
+context p t f b i c = record { picture_structure = p; prediction_type = t; macroblock_motion_forward = f; macroblock_motion_backward = b; macroblock_intra = i; concealment_motion_vectors = c }"""
 
 
 def eight(fields):
@@ -356,7 +356,7 @@ def pmv(repository):
         value = f"(range {z(low)} {z(high)} {z(span)})"
         said = f"Found.Refused {answer}" if answer else f"Found.Range {value}"
         m.case(
-            f"rangeAnswer (fCodeRefusal {f}) (rangeOf (scale {f})) ≡ {said}",
+            f"rangeAnswer (fCodeRefusal {f}) (range_of (scale {f})) ≡ {said}",
             f"rangeNumber ({said}) ≡ {answer}",
             f"rangeValue ({said}) ≡ {'none' if answer else 'some ' + value}",
         )
@@ -380,8 +380,8 @@ def pmv(repository):
         said, _, _ = component(c[16], c[17:21])
         words = f"{eight(c[1:9])} {r} {s} {t} {c[15]} {z(c[12])} {residual(c[13], c[14])} false"
         m.case(
-            f"decoded {words} ported .answer ≡ {said}",
-            f"decoded {words} ported .pmv ≡ {eight(c[21:29])}",
+            f"(decoded {words} ported).answer ≡ {said}",
+            f"(decoded {words} ported).pmv ≡ {eight(c[21:29])}",
             f"partRefusal {words} ported ≡ {c[16]}",
         )
     vectors = selection(kind(5), lambda x: (x[0], x[1][21], x[1][9], x[1][10], x[1][19], x[1][20] == 2), 1, 100)
@@ -396,17 +396,17 @@ def pmv(repository):
         words = f"{c[17]} {c[18]} {kind_of('MvFormat', c[19])} {kind_of('PictureStructure', c[20])}"
         call = f"reconstructed {eight(c[1:9])} {mv} {r} {s} {words} ported"
         m.case(
-            f"{call} .answer ≡ {said}",
-            f"{call} .pmv ≡ {eight(c[30:38])}",
+            f"({call}).answer ≡ {said}",
+            f"({call}).pmv ≡ {eight(c[30:38])}",
             f"vectorNumber ({said}) ≡ {c[21]}",
             f"vectorValue ({said}) ≡ {'none' if c[21] else 'some ' + value}",
-            f"vectorRefusal (pairOf {eight(c[1:9])} {r} {s}) {mv} {words} ported ≡ {c[21]}",
+            f"vectorRefusal (pair_of {eight(c[1:9])} {r} {s}) {mv} {words} ported ≡ {c[21]}",
         )
     for g, c in selection(kind(6), lambda x: (x[1][3], x[1][1] % 4, x[1][1] < 0, x[1][2] % 4 == x[1][1] % 4), 1, 48):
         chroma = kind_of("ChromaFormat", c[3])
         m.case(
-            f"scaled {z(c[1])} {z(c[2])} {chroma} ≡ record {{ «luma_horiz» = {z(c[1])}; «luma_vert» = {z(c[2])}; "
-            f"«chroma_horiz» = {z(c[4])}; «chroma_vert» = {z(c[5])} }}"
+            f"scaled {z(c[1])} {z(c[2])} {chroma} ≡ record {{ luma_horiz = {z(c[1])}; luma_vert = {z(c[2])}; "
+            f"chroma_horiz = {z(c[4])}; chroma_vert = {z(c[5])} }}"
         )
     distinct = lambda c: len(set(c[1:9])) == 8 and 0 not in c[1:9]
     for g, c in selection([x for x in kind(7) if distinct(x[1])], lambda x: tuple(x[1][9:16]), 1, 300):
@@ -415,8 +415,8 @@ def pmv(repository):
         outcome = "Outcome." + OUTCOMES[c[17]]
         said = f"U.Refused {c[16]}" if c[16] else f"U.Outcome {outcome}"
         m.case(
-            f"updated {eight(c[1:9])} {x} .answer ≡ {said}",
-            f"updated {eight(c[1:9])} {x} .pmv ≡ {eight(c[18:26])}",
+            f"(updated {eight(c[1:9])} {x}).answer ≡ {said}",
+            f"(updated {eight(c[1:9])} {x}).pmv ≡ {eight(c[18:26])}",
             f"updateRefusal {x} ≡ {c[16]}",
         )
     for n, name in enumerate(OUTCOMES):
@@ -429,7 +429,7 @@ def pmv(repository):
         )
     for g, c in selection([x for x in kind(8) if distinct(x[1])], lambda x: (x[1][9], min(x[1][10], 6)), 1, 40):
         call = f"spatialTemporalReset {eight(c[1:9])} {kind_of('PictureCodingType', c[9])} {c[10]}"
-        m.case(f"{call} .applied ≡ {flag(c[11])}", f"{call} .pmv ≡ {eight(c[12:20])}")
+        m.case(f"({call}).applied ≡ {flag(c[11])}", f"({call}).pmv ≡ {eight(c[12:20])}")
     for g, c in selection([x for x in kind(9) if distinct(x[1])], lambda x: tuple(x[1][9:12]), 1, 8):
         place = " ".join([kind_of("VectorIndex", c[9]), kind_of("Direction", c[10]), kind_of("Component", c[11])])
         m.case(f"predictor {eight(c[1:9])} {place} ≡ {z(c[13])}", f"stored {eight(c[1:9])} {place} {z(c[12])} ≡ {eight(c[14:22])}")
@@ -442,43 +442,43 @@ def pmv(repository):
 
 
 FRAMES_HEAD = """
-use Rattle·combine_predictions.specs.Refusals.{orElse, unlessRefused}
-use Rattle·forming_predictions.specs.Splitting.{floorHalf, halfFlag}
-use Rattle·forming_predictions.specs.Lines.{fieldLines, clampTo, rowOf, sampleAt}
-use Rattle·forming_predictions.specs.Forming.{combined, formed}
-use Rattle·forming_predictions.specs.Means.{rounded}
-use Rattle·forming_predictions.specs.Refusals.{planeFits}
-use Rattle·forming_predictions.specs.declared.FieldParity.the-variants as FieldParity
-use Rattle·forming_predictions.specs.declared.FieldParity.{FieldParity}
-use Rattle·pmv.specs.Chroma.{truncHalf}
-use Rattle·pmv.specs.declared.kinds.ChromaFormat.the-variants as ChromaFormat
-use Rattle·pmv.specs.declared.kinds.ChromaFormat.{ChromaFormat}
-use Rattle·inter_reconstruction.specs.Components.{ColourComponent, luma, cb, cr}
-use Rattle·inter_reconstruction.specs.Frames.{Samples, samplesOf, lengthsOf, isPresent, readReference}
-use Rattle·inter_reconstruction.specs.Motion.{frameUses, fieldUses}
-use Rattle·inter_reconstruction.specs.Macroblock.{fieldSample, directionSample, usedSample, rectangle, macroblock, predicted}
-use Rattle·inter_reconstruction.specs.Refusals.{sameGeometry, planesFit, predictionRefusal}
-use Rattle·inter_reconstruction.specs.Answers.{predictionNumber, predictionAnswer}
-use Rattle·inter_reconstruction.specs.declared.frames.FrameGeometry.{FrameGeometry}
-use Rattle·inter_reconstruction.specs.declared.frames.FrameBuffer.{FrameBuffer}
-use Rattle·inter_reconstruction.specs.declared.frames.ReferenceFrame.{ReferenceFrame}
-use Rattle·inter_reconstruction.specs.declared.frames.ReferenceFrame.the-variants as Reference
-use Rattle·inter_reconstruction.specs.declared.macroblock.MacroblockPrediction.the-variants.{Done, Refused}
-use Rattle·inter_reconstruction.specs.declared.motion.MotionVectorPel.{MotionVectorPel}
-use Rattle·inter_reconstruction.specs.declared.motion.FieldVector.{FieldVector}
-use Rattle·inter_reconstruction.specs.declared.motion.FrameMotion.{FrameMotion}
-use Rattle·inter_reconstruction.specs.declared.motion.FieldBasedMotion.{FieldBasedMotion}
-use Rattle·inter_reconstruction.specs.declared.motion.FrameDirection.the-variants as FrameDirection
-use Rattle·inter_reconstruction.specs.declared.motion.FrameDirection.{FrameDirection}
-use Rattle·inter_reconstruction.specs.declared.motion.FieldDirection.the-variants as FieldDirection
-use Rattle·inter_reconstruction.specs.declared.motion.FieldDirection.{FieldDirection}
+use Rattle.combine_predictions.specs.Refusals.{or_else, unlessRefused}
+use Rattle.forming_predictions.specs.Splitting.{floorHalf, halfFlag}
+use Rattle.forming_predictions.specs.Lines.{fieldLines, clampTo, row_of, sampleAt}
+use Rattle.forming_predictions.specs.Forming.{combined, formed}
+use Rattle.forming_predictions.specs.Means.{rounded}
+use Rattle.forming_predictions.specs.Refusals.{planeFits}
+use Rattle.forming_predictions.specs.declared.FieldParity.TheVariants as FieldParity
+use Rattle.forming_predictions.specs.declared.FieldParity.{FieldParity}
+use Rattle.pmv.specs.Chroma.{truncHalf}
+use Rattle.pmv.specs.declared.kinds.ChromaFormat.TheVariants as ChromaFormat
+use Rattle.pmv.specs.declared.kinds.ChromaFormat.{ChromaFormat}
+use Rattle.inter_reconstruction.specs.Components.{ColourComponent, luma, cb, cr}
+use Rattle.inter_reconstruction.specs.Frames.{Samples, samplesOf, lengthsOf, isPresent, readReference}
+use Rattle.inter_reconstruction.specs.Motion.{frameUses, fieldUses}
+use Rattle.inter_reconstruction.specs.Macroblock.{fieldSample, directionSample, usedSample, rectangle, macroblock, predicted}
+use Rattle.inter_reconstruction.specs.Refusals.{sameGeometry, planesFit, predictionRefusal}
+use Rattle.inter_reconstruction.specs.Answers.{predictionNumber, predictionAnswer}
+use Rattle.inter_reconstruction.specs.declared.frames.FrameGeometry.{FrameGeometry}
+use Rattle.inter_reconstruction.specs.declared.frames.FrameBuffer.{FrameBuffer}
+use Rattle.inter_reconstruction.specs.declared.frames.ReferenceFrame.{ReferenceFrame}
+use Rattle.inter_reconstruction.specs.declared.frames.ReferenceFrame.TheVariants as Reference
+use Rattle.inter_reconstruction.specs.declared.macroblock.MacroblockPrediction.TheVariants.{Done, Refused}
+use Rattle.inter_reconstruction.specs.declared.motion.MotionVectorPel.{MotionVectorPel}
+use Rattle.inter_reconstruction.specs.declared.motion.FieldVector.{FieldVector}
+use Rattle.inter_reconstruction.specs.declared.motion.FrameMotion.{FrameMotion}
+use Rattle.inter_reconstruction.specs.declared.motion.FieldBasedMotion.{FieldBasedMotion}
+use Rattle.inter_reconstruction.specs.declared.motion.FrameDirection.TheVariants as FrameDirection
+use Rattle.inter_reconstruction.specs.declared.motion.FrameDirection.{FrameDirection}
+use Rattle.inter_reconstruction.specs.declared.motion.FieldDirection.TheVariants as FieldDirection
+use Rattle.inter_reconstruction.specs.declared.motion.FieldDirection.{FieldDirection}
 """
 FRAMES_UNFOLDING = (
-    "tabulate floorHalf halfFlag fieldLines clampTo rowOf sampleAt combined formed planeFits truncHalf fieldSample directionSample usedSample "
+    "tabulate floorHalf halfFlag fieldLines clampTo row_of sampleAt combined formed planeFits truncHalf fieldSample directionSample usedSample "
     "rectangle macroblock sameGeometry planesFit"
 )
 FRAMES_HELP = """abbrev geometry : ℕ → ℕ → ChromaFormat → FrameGeometry
-geometry w h f = record { width = w; height = h; «chroma_format» = f }
+geometry w h f = record { width = w; height = h; chroma_format = f }
 
 abbrev buffer : FrameGeometry → ℕ → ℕ → ℕ → ℕ → ℕ → ℕ → FrameBuffer
 buffer g yw yh bw bh rw rh = record { geometry = g; y = record { width = yw; height = yh }; cb = record { width = bw; height = bh }; cr = record { width = rw; height = rh } }
@@ -487,7 +487,7 @@ abbrev vector : ℤ → ℤ → MotionVectorPel
 vector h v = record { horizontal = h; vertical = v }
 
 abbrev fieldVector : ℤ → ℤ → FieldParity → FieldVector
-fieldVector h v p = record { vector = vector h v; «reference_field» = p }
+fieldVector h v p = record { vector = vector h v; reference_field = p }
 
 abbrev frameDirection : ℤ → ℤ → FrameDirection
 frameDirection h v = FrameDirection.Present (vector h v)
@@ -613,12 +613,12 @@ def macroblocks(repository):
         after = hexed(rest[3])
         if not after:
             continue
-        value = f"predicted rounded ({dest} .«chroma_format») (readReference {forward} {fp}) (readReference {backward} {bp}) {u} {c[12]} {c[13]}"
+        value = f"predicted rounded {dest}.chroma_format (readReference {forward} {fp}) (readReference {backward} {bp}) {u} {c[12]} {c[13]}"
         number = f"predictionNumber (predictionAnswer ({refusal}))"
         m.define(f"abbrev block{n} : List ℕ\nblock{n} = unlessRefused ({number}) ({value}) (filled {rest[0]} {rest[1]})")
         chroma = (len(after) - 256) // 2
         spots = [0, 17 + n % 7, 256 + n % chroma, 256 + chroma - 1, 256 + chroma + (11 * n) % chroma, len(after) - 1, (37 * n) % 256]
-        m.case(*[f"getD block{n} {k} 0 ≡ {after[k]}" for k in sorted(set(spots))], f"length block{n} ≡ {len(after)}")
+        m.case(*[f"get_or block{n} {k} 0 ≡ {after[k]}" for k in sorted(set(spots))], f"length block{n} ≡ {len(after)}")
     return m
 
 
@@ -628,16 +628,16 @@ def macroblocks(repository):
 def placings(repository):
     m = Module(
         """
-use Rattle·forming_predictions.specs.Refusals.{planeFits}
-use Rattle·pmv.specs.declared.kinds.ChromaFormat.the-variants as ChromaFormat
-use Rattle·pmv.specs.declared.kinds.ChromaFormat.{ChromaFormat}
-use Rattle·inter_reconstruction.specs.Components.{ColourComponent, luma, cb, cr}
-use Rattle·inter_reconstruction.specs.Frames.{Samples, samplesOf}
-use Rattle·inter_reconstruction.specs.Refusals.{planesFit}
-use Rattle·inter_reconstruction.specs.Placing.{stored, placed, pictureFits, wellFormed, placingRefusal, placingNumber, placingAnswer}
-use Rattle·inter_reconstruction.specs.declared.frames.FrameGeometry.{FrameGeometry}
-use Rattle·inter_reconstruction.specs.declared.frames.FrameBuffer.{FrameBuffer}
-use Rattle·inter_reconstruction.specs.declared.placing.MacroblockPlacement.the-variants.{Done, Refused}
+use Rattle.forming_predictions.specs.Refusals.{planeFits}
+use Rattle.pmv.specs.declared.kinds.ChromaFormat.TheVariants as ChromaFormat
+use Rattle.pmv.specs.declared.kinds.ChromaFormat.{ChromaFormat}
+use Rattle.inter_reconstruction.specs.Components.{ColourComponent, luma, cb, cr}
+use Rattle.inter_reconstruction.specs.Frames.{Samples, samplesOf}
+use Rattle.inter_reconstruction.specs.Refusals.{planesFit}
+use Rattle.inter_reconstruction.specs.Placing.{stored, placed, pictureFits, wellFormed, placingRefusal, placingNumber, placingAnswer}
+use Rattle.inter_reconstruction.specs.declared.frames.FrameGeometry.{FrameGeometry}
+use Rattle.inter_reconstruction.specs.declared.frames.FrameBuffer.{FrameBuffer}
+use Rattle.inter_reconstruction.specs.declared.placing.MacroblockPlacement.TheVariants.{Done, Refused}
 """,
         "tabulate stored planeFits planesFit pictureFits wellFormed",
     )
@@ -686,19 +686,19 @@ def predictor_bytes(values):
 
 def entries(repository):
     head = PMV_HEAD + """
-use Rattle·combine_predictions.specs.Refusals.{orElse, unlessRefused}
-use Rattle·forming_predictions.specs.declared.FieldParity.the-variants as FieldParity
-use Rattle·pmv.specs.declared.predictors.PredictorPair.{PredictorPair}
-use Rattle·pmv.specs.Kinds as Kinds
-use Rattle·fozdrik.specs.Layout.{signedOf, wordOf, bytesOf, numberAt, predictorsOf, numbersBytes, predictorBytes, pairBytes, withPair}
-use Rattle·fozdrik.specs.Entries.{unknownRefusal, isYes, vectorKnown, updateKnown, residualOf, typeOf, indexOf, directionOf, formatOf, structureOf, motionVectorOf, vectorFrom, vectorBytes, contextOf, frameKnown, fieldKnown, referenceKnown, fieldsKnown, geometryOf, referenceOf, frameDirectionOf, fieldVectorOf, fieldDirectionOf, frameMotionOf, fieldMotionOf}
-use Rattle·inter_reconstruction.specs.declared.frames.ReferenceFrame.the-variants as Reference
-use Rattle·inter_reconstruction.specs.declared.motion.FrameDirection.the-variants as Frame
-use Rattle·inter_reconstruction.specs.declared.motion.FieldDirection.the-variants as Field
-""" + "".join(f"use Rattle·pmv.specs.declared.kinds.Option{n}.the-variants as Option{n}\n" for n in ["Flag", *HEADER] if n != "Component")
+use Rattle.combine_predictions.specs.Refusals.{or_else, unlessRefused}
+use Rattle.forming_predictions.specs.declared.FieldParity.TheVariants as FieldParity
+use Rattle.pmv.specs.declared.predictors.PredictorPair.{PredictorPair}
+use Rattle.pmv.specs.Kinds as Kinds
+use Rattle.entry_points.specs.Layout.{signed_of, word_of, bytes_of, number_at, predictorsOf, numbersBytes, predictorBytes, pairBytes, withPair}
+use Rattle.entry_points.specs.Entries.{unknownRefusal, is_yes, vectorKnown, updateKnown, residualOf, type_of, indexOf, directionOf, format_of, structureOf, motionVectorOf, vectorFrom, vectorBytes, context_of, frameKnown, fieldKnown, referenceKnown, fieldsKnown, geometryOf, referenceOf, frameDirectionOf, fieldVectorOf, fieldDirectionOf, frameMotionOf, fieldMotionOf}
+use Rattle.inter_reconstruction.specs.declared.frames.ReferenceFrame.TheVariants as Reference
+use Rattle.inter_reconstruction.specs.declared.motion.FrameDirection.TheVariants as Frame
+use Rattle.inter_reconstruction.specs.declared.motion.FieldDirection.TheVariants as Field
+""" + "".join(f"use Rattle.pmv.specs.declared.kinds.Option{n}.TheVariants as Option{n}\n" for n in ["Flag", *HEADER] if n != "Component")
     m = Module(
         head,
-        PMV_UNFOLDING + " bytesOf numberAt predictorsOf numbersBytes withPair vectorKnown updateKnown residualOf typeOf frameKnown fieldKnown "
+        PMV_UNFOLDING + " bytes_of number_at predictorsOf numbersBytes withPair vectorKnown updateKnown residualOf type_of frameKnown fieldKnown "
         "referenceKnown fieldsKnown geometryOf referenceOf frameDirectionOf fieldVectorOf fieldDirectionOf",
     )
     # kinds, by the header's numbers
@@ -722,7 +722,7 @@ use Rattle·inter_reconstruction.specs.declared.motion.FieldDirection.the-varian
             f"Kinds.flagFrom {n} ≡ {some}",
             f"Kinds.flagKnown {some} ≡ true",
             f"Kinds.flagOr {some} ≡ {value}",
-            f"isYes {n} ≡ {value}",
+            f"is_yes {n} ≡ {value}",
         )
     for n in (2, 3, 256, 257):
         m.case(f"Kinds.flagFrom {n} ≡ OptionFlag.None", "Kinds.flagKnown OptionFlag.None ≡ false")
@@ -735,10 +735,10 @@ use Rattle·inter_reconstruction.specs.declared.motion.FieldDirection.the-varian
     for v in (0, 1, -1, 127, 128, 255, 256, -256, 65535, 65536, 16777216, 2**31 - 1, -(2**31), -(2**31) + 1, 305419896, -305419896):
         unsigned = struct.unpack("<I", bytes(word(v)))[0]
         m.case(
-            f"wordOf {z(v)} ≡ {unsigned}",
-            f"signedOf {unsigned} ≡ {z(v)}",
-            f"bytesOf {z(v)} ≡ {lst(word(v))}",
-            f"numberAt {lst([9] + word(v) + [9])} 1 ≡ {z(v)}",
+            f"word_of {z(v)} ≡ {unsigned}",
+            f"signed_of {unsigned} ≡ {z(v)}",
+            f"bytes_of {z(v)} ≡ {lst(word(v))}",
+            f"number_at {lst([9] + word(v) + [9])} 1 ≡ {z(v)}",
         )
     # vectors and updates
     cases = read_list(repository, "pmv")
@@ -748,21 +748,21 @@ use Rattle·inter_reconstruction.specs.declared.motion.FieldDirection.the-varian
     for g, c in selection([x for x in kind(5) if x[0] in "lmo"], shape, 1, 60):
         l, after = lst(predictor_bytes(c[1:9])), lst(predictor_bytes(c[30:38]))
         mv = f"(motionVectorOf {z(c[11])} {c[12]} {c[13]} {z(c[14])} {c[15]} {c[16]})"
-        got = f"vectorFrom {l} (indexOf {c[9]}) (directionOf {c[10]}) {mv} {c[17]} {c[18]} (formatOf {c[19]}) (structureOf {c[20]})"
+        got = f"vectorFrom {l} (indexOf {c[9]}) (directionOf {c[10]}) {mv} {c[17]} {c[18]} (format_of {c[19]}) (structureOf {c[20]})"
         known = f"vectorKnown {c[9]} {c[10]} {c[12]} {c[15]} {c[19]} {c[20]} 32 8"
         vector = lst(word(c[22]) + word(c[26]) if not c[21] else old)
         m.case(
-            f"orElse (unknownRefusal ({known})) (vectorNumber ({got} .answer)) ≡ {c[21]}",
-            f"withPair {l} (indexOf {c[9]}) (directionOf {c[10]}) ({got} .predictors) ≡ {after}",
-            f"vectorBytes ({got} .answer) {lst(old)} ≡ {vector}",
+            f"or_else (unknownRefusal ({known})) (vectorNumber ({got}).answer) ≡ {c[21]}",
+            f"withPair {l} (indexOf {c[9]}) (directionOf {c[10]}) ({got}).predictors ≡ {after}",
+            f"vectorBytes ({got}).answer {lst(old)} ≡ {vector}",
         )
     distinct = lambda c: len(set(c[1:9])) == 8 and 0 not in c[1:9]
     for g, c in selection([x for x in kind(7) if distinct(x[1])], lambda x: (x[1][9], x[1][10], x[1][11], x[1][16], x[1][17]), 1, 60):
         l = lst(predictor_bytes(c[1:9]))
         words = " ".join(str(v) for v in c[9:16])
         m.case(
-            f"orElse (unknownRefusal (updateKnown {words} 32 1)) (updateRefusal (contextOf {words})) ≡ {c[16]}",
-            f"predictorBytes (updated (predictorsOf {l}) (contextOf {words}) .pmv) ≡ {lst(predictor_bytes(c[18:26]))}",
+            f"or_else (unknownRefusal (updateKnown {words} 32 1)) (updateRefusal (context_of {words})) ≡ {c[16]}",
+            f"predictorBytes (updated (predictorsOf {l}) (context_of {words})).pmv ≡ {lst(predictor_bytes(c[18:26]))}",
         )
     # one number without a meaning, or a length, at a time: 38; what stands beside an absence is not read
     def unknowns(name, right, wrong, free=()):
@@ -801,7 +801,7 @@ use Rattle·inter_reconstruction.specs.declared.motion.FieldDirection.the-varian
     )
     unknowns("fieldKnown", [2, 0, 9, 0, 9, 0, 9, 9, 0, 9, 9], {5: two, 8: two}, [(6, 1), (9, 0)])
     # what the numbers of the prediction calls are put together to; every number is another
-    g = "record { width = 11; height = 12; «chroma_format» = ChromaFormat.Yuv422 }"
+    g = "record { width = 11; height = 12; chroma_format = ChromaFormat.Yuv422 }"
     plane = lambda a, b: f"record {{ width = {a}; height = {b} }}"
     there = f"Reference.Present (record {{ geometry = {g}; y = {plane(13, 14)}; cb = {plane(15, 16)}; cr = {plane(17, 18)} }})"
     m.case(
@@ -810,22 +810,22 @@ use Rattle·inter_reconstruction.specs.declared.motion.FieldDirection.the-varian
         "referenceOf 0 11 12 1 13 14 15 16 17 18 ≡ Reference.Absent",
     )
     v = lambda h, w: f"record {{ horizontal = {z(h)}; vertical = {z(w)} }}"
-    u = lambda h, w, p: f"record {{ vector = {v(h, w)}; «reference_field» = FieldParity.{p} }}"
+    u = lambda h, w, p: f"record {{ vector = {v(h, w)}; reference_field = FieldParity.{p} }}"
     m.case(f"frameDirectionOf 1 {z(3)} {z(-4)} ≡ Frame.Present ({v(3, -4)})", f"frameDirectionOf 0 {z(3)} {z(-4)} ≡ Frame.Absent")
     m.case(
-        f"frameMotionOf 1 {z(3)} {z(-4)} 1 {z(5)} {z(6)} .forward ≡ Frame.Present ({v(3, -4)})",
-        f"frameMotionOf 1 {z(3)} {z(-4)} 1 {z(5)} {z(6)} .backward ≡ Frame.Present ({v(5, 6)})",
+        f"(frameMotionOf 1 {z(3)} {z(-4)} 1 {z(5)} {z(6)}).forward ≡ Frame.Present ({v(3, -4)})",
+        f"(frameMotionOf 1 {z(3)} {z(-4)} 1 {z(5)} {z(6)}).backward ≡ Frame.Present ({v(5, 6)})",
     )
     m.case(
-        f"frameMotionOf 0 {z(3)} {z(-4)} 1 {z(5)} {z(6)} .forward ≡ Frame.Absent",
-        f"frameMotionOf 1 {z(3)} {z(-4)} 0 {z(5)} {z(6)} .backward ≡ Frame.Absent",
+        f"(frameMotionOf 0 {z(3)} {z(-4)} 1 {z(5)} {z(6)}).forward ≡ Frame.Absent",
+        f"(frameMotionOf 1 {z(3)} {z(-4)} 0 {z(5)} {z(6)}).backward ≡ Frame.Absent",
     )
     pair = lambda a, b: f"Field.Present (record {{ top = {a}; bottom = {b} }})"
     for flags in ((1, 1), (0, 1), (1, 0)):
         call = f"fieldMotionOf {flags[0]} 1 {z(3)} {z(-4)} 0 {z(5)} {z(6)} {flags[1]} 0 {z(7)} {z(8)} 1 {z(-9)} {z(10)}"
         forward = pair(u(3, -4, "Bottom"), u(5, 6, "Top")) if flags[0] else "Field.Absent"
         backward = pair(u(7, 8, "Top"), u(-9, 10, "Bottom")) if flags[1] else "Field.Absent"
-        m.case(f"{call} .forward ≡ {forward}", f"{call} .backward ≡ {backward}")
+        m.case(f"({call}).forward ≡ {forward}", f"({call}).backward ≡ {backward}")
     return m
 
 
@@ -841,17 +841,17 @@ fits k n cr h = refl
 
 
 # what the parts of the claim about drift say, by what follows from each
-CLAIM_USES = """use mathlib.Core.Path.{_≡_}
+CLAIM_USES = """use mathlib.Core.Path.{◌≡◌}
 use mathlib.Core.List.{[]}
 use mathlib.Core.Option.{some}
-use Prim.Native.Nat.{ℕ, _<_}
+use Prim.Native.Nat.{ℕ, ◌<◌}
 use native.Mathlib.Omega.{arith}
-use lib.ListN.{length, getD}
-use Rattle·inter_reconstruction.specs.Components.{luma, cb}
-use Rattle·drift.specs.Steps.{Pictures, afterSteps}
-use Rattle·drift.specs.Unrounded.{afterUnroundedSteps, inUnits}
-use Rattle·drift.specs.Drift.{Fitting, Lower, Near, DriftWithin}
-use Rattle·worked_runs.specs.Steps.{wide}
+use lib.ListN.{length, get_or}
+use Rattle.inter_reconstruction.specs.Components.{luma, cb}
+use Rattle.drift.specs.Steps.{Pictures, afterSteps}
+use Rattle.drift.specs.Unrounded.{afterUnroundedSteps, inUnits}
+use Rattle.drift.specs.Drift.{Fitting, Lower, Near, DriftWithin}
+use Rattle.worked_runs.specs.Steps.{wide}
 """
 CLAIMS = """
 pub fitting-last : (p : Pictures) → Fitting wide 2 p → length (p 2 luma) ≡ 512
@@ -866,7 +866,7 @@ lower-of n j h = h
 pub within-is : DriftWithin 2 9 5
     → (p : Pictures)
     → Fitting wide 3 p
-    → Near 2 9 5 (getD (afterSteps wide [] p 2 cb) 7 0) (getD (afterUnroundedSteps wide [] (inUnits p) 2 cb) 7 0)
+    → Near 2 9 5 (get_or (afterSteps wide [] p 2 cb) 7 0) (get_or (afterUnroundedSteps wide [] (inUnits p) 2 cb) 7 0)
 within-is h p f = h wide 3 p f [] tt (omega arith) cb 7
 """
 
@@ -901,7 +901,7 @@ def worked(repository):
             (r"\(1 ∷ 2 ∷ 3 ∷ 4 ∷ \[\]\)", "(1 ∷ 2 ∷ [])"),
             (r"\(refl, \(refl, \(refl, \(refl, tt\)\)\)\)", "(refl, (refl, tt))"),
             (r"use [^\n]*length-tab[^\n]*\n", ""),
-            (r"use Rattle·drift\.proofs\.Runs[^\n]*\n", ""),
+            (r"use Rattle\.drift\.proofs\.Runs[^\n]*\n", ""),
             (r"Drift\.\{Fitting, InRange, Near\}", "Drift.{Fitting, InRange, Near, Lower, DriftFigure}"),
             (r"pub fits : .*?\n\n", FITS),
             (

@@ -28,7 +28,7 @@ JUDGES = {
     "forming_predictions": ["replay_forming_predictions", "fuzz"],
     "pmv": ["replay_pmv", "replay_inter_reconstruction", "fuzz"],
     "inter_reconstruction": ["replay_inter_reconstruction", "replay_placing", "run_drift", "fuzz"],
-    "fozdrik": ["replay_fozdrik", "fuzz"],
+    "entry_points": ["replay_fozdrik", "fuzz"],
 }
 # files that the crate's first judge does not run, and what does
 RATHER = {
@@ -42,7 +42,7 @@ CASES = {
     "forming_predictions": ["FormingFew", "Forming", "Worked", "Vectors", "Macroblocks", "Placing", "Runs"],
     "pmv": ["VectorsFew", "Vectors", "Entries", "Worked", "Macroblocks", "Runs"],
     "inter_reconstruction": ["MacroblocksFew", "PlacingFew", "Macroblocks", "Placing", "RunsFew", "Runs", "Entries"],
-    "fozdrik": ["EntriesFew", "Entries"],
+    "entry_points": ["EntriesFew", "Entries"],
     "drift": ["StepsFew", "Steps", "RunsFew", "Runs"],
 }
 FIRST = {"inter_reconstruction/specs/Placing.antt": "PlacingFew", "pmv/specs/Kinds.antt": "Entries"}
@@ -54,7 +54,7 @@ NEEDS = {
     "Vectors": LAYERS[:4],
     "Macroblocks": LAYERS,
     "Placing": LAYERS,
-    "Entries": LAYERS + ["fozdrik"],
+    "Entries": LAYERS + ["entry_points"],
     "Worked": LAYERS[:4] + ["worked_cases"],
     "Runs": LAYERS + ["drift", "worked_runs"],
     "Steps": LAYERS + ["drift", "worked_runs"],
@@ -62,7 +62,7 @@ NEEDS = {
 # of one kind in one function so many at most, evenly, unless all are asked for: long calls have dozens that are much alike
 MOST = 4
 # a check of a definition's mutant that takes longer computes something absurd
-CHECK_SECONDS = 90
+CHECK_SECONDS = 300
 
 
 class Mutant:
@@ -104,48 +104,61 @@ def some_of(mutants, named):
     return [m for m in mutants if m.key in kept or m.key in named]
 
 
+def judge_names(crates):
+    return sorted({name for crate in crates for name in JUDGES[crate]})
+
+
 class CodeCourt:
     """Judges mutants of the code, in a folder of its own."""
 
-    def __init__(self, rt, folder, crates):
+    def __init__(self, rt, folder, programs, crates):
         kit = judges.Kit(rt)
-        self.tree = judges.Tree(REPOSITORY, os.path.join(folder, "tree"), kit)
-        compiler = judges.Compiler(kit, os.path.join(folder, "made"))
+        self.library = judges.Library(kit, REPOSITORY, folder)
+        objects = judges.Objects(kit, REPOSITORY, programs)
         self.judges = {}
-        for name in sorted({n for crate in crates for n in JUDGES[crate]}):
+        for name in judge_names(crates):
             if name == "fuzz":
-                judge = judges.Fuzzer(self.tree, compiler, REPOSITORY, FUZZ_CASES)
+                self.judges[name] = judges.Fuzzer(self.library, REPOSITORY, FUZZ_CASES)
             else:
-                judge = judges.Program(name, self.tree, compiler, REPOSITORY)
-            self.judges[name] = judge
-            for build in judge.builds:
-                verdict, why = judge.judged(build)
-                if verdict != SURVIVED:
-                    raise judges.Failure(f"without a mutation, {name} is {verdict}: {why}")
+                self.judges[name] = judges.Program(name, objects, self.library, REPOSITORY)
+        module, said = self.library.module()
+        if module is None:
+            raise judges.Failure(f"without a mutation, the compiler refuses the code: {said}")
+        for build in (judges.CHECKED, judges.SANITIZED):
+            compiled = self.library.object(module, build)
+            for name, judge in self.judges.items():
+                if build in judge.builds:
+                    verdict, why = judge.judged(compiled, build)
+                    if verdict != SURVIVED:
+                        raise judges.Failure(f"without a mutation, {name} is {verdict}, {build}: {why}")
 
     def judged(self, mutant):
-        path = self.tree.path(mutant.path)
+        path = self.library.path(mutant.path)
         text = flat.read(path)
         edit = mutant.edit
         names = sorted(JUDGES[mutant.crate], key=lambda n: n != RATHER.get(mutant.path))
         try:
             flat.write(path, text[: edit.start] + edit.text + text[edit.end :])
-            # what all let pass is run by the first of them in its other builds
-            trials = [(name, judges.PLAIN) for name in names] + [(names[0], build) for build in self.judges[names[0]].builds[1:]]
-            for name, build in trials:
-                verdict, why = self.judges[name].judged(build)
-                if verdict != SURVIVED:
-                    return verdict, f"{name}, {build}: {why}"
-            return SURVIVED, ""
+            module, said = self.library.module()
         finally:
             flat.write(path, text)
+        if module is None:
+            return REFUSED, said
+        # what all let pass is run by the first of them with the address sanitizer
+        for build, asked in ((judges.CHECKED, names), (judges.SANITIZED, names[:1])):
+            compiled = self.library.object(module, build)
+            for name in asked:
+                verdict, why = self.judges[name].judged(compiled, build)
+                if verdict != SURVIVED:
+                    return verdict, f"{name}, {build}: {why}"
+        return SURVIVED, ""
 
 
 class DefinitionCourt:
     """Judges mutants of definitions: for each module of cases one crate with the definitions and that module."""
 
     def __init__(self, rt, folder, crates):
-        self.rt, self.folder = rt, folder
+        self.kit, self.folder = judges.Kit(rt), folder
         modules, specs = cases.modules(REPOSITORY)
         for name in sorted({n for crate in crates for n in CASES[crate]}):
             needs = NEEDS[name.removesuffix("Few")]
@@ -163,7 +176,8 @@ class DefinitionCourt:
     def checked(self, name):
         kept = os.path.join(self.folder, name, "kept")
         os.makedirs(kept, exist_ok=True)
-        status, said = judges.run([self.rt, "check", self.path(name), "--incremental", kept], CHECK_SECONDS)
+        words = [*self.kit.check, "--crate-name", flat.CRATE, self.path(name, "src", "lib.rt"), "--incremental", kept, "--jobs", "1"]
+        status, said = judges.run(words, CHECK_SECONDS)
         said = said.decode(errors="replace")
         if status is None:
             return NOTICED, f"the cases {name}: {judges.LATE}"
@@ -211,9 +225,9 @@ def read_survivors():
     return reasons
 
 
-def state():
+def state(rt):
     """a digest of all that a verdict depends on"""
-    digest = hashlib.sha256()
+    digest = hashlib.sha256(judges.run([rt, "version"])[1])
     for folder in ("crates", "fuzz", "include", "mutate"):
         for where, inside, names in os.walk(os.path.join(REPOSITORY, folder)):
             inside.sort()
@@ -246,12 +260,15 @@ courts = {}
 
 def open_courts(folder, rt, todo):
     number = multiprocessing.current_process()._identity
-    folder = os.path.join(folder, str(number[0] if number else 0))
-    for part, court in (("src", CodeCourt), ("specs", DefinitionCourt)):
+    own = os.path.join(folder, str(number[0] if number else 0))
+    for part in ("src", "specs"):
         crates = [crate for p, crate in todo if p == part]
         if crates:
             try:
-                courts[part] = court(rt, os.path.join(folder, part), crates)
+                if part == "src":
+                    courts[part] = CodeCourt(rt, os.path.join(own, part), os.path.join(folder, "programs"), crates)
+                else:
+                    courts[part] = DefinitionCourt(rt, os.path.join(own, part), crates)
             except (judges.Failure, ValueError) as failure:
                 courts[part] = failure
 
@@ -301,12 +318,19 @@ def main():
     survivors, failed, unexplained, late = set(), [], [], 0
     os.makedirs(o.folder, exist_ok=True)
     path = os.path.join(o.folder, "verdicts.txt")
-    now = state()
+    now = state(o.rt)
     known = read_verdicts(path, now) if o.resume else {}
     before = [(m, known[m.key]) for m in todo if m.key in known]
     left = [m for m in todo if m.key not in known]
     print(f"{len(todo)} mutants; verdicts go to {os.path.relpath(path)}", flush=True)
     rows_left = list(dict.fromkeys((m.part, m.crate) for m in left))
+    programs = [n for n in judge_names(crate for part, crate in rows_left if part == "src") if n != "fuzz"]
+    if programs:
+        try:
+            judges.Objects(judges.Kit(o.rt), REPOSITORY, os.path.join(o.folder, "programs")).made(programs)
+        except judges.Failure as failure:
+            print(f"the code cannot be tried: {failure}")
+            return 1
     with open(path, "w") as log, multiprocessing.Pool(o.jobs, open_courts, (o.folder, o.rt, rows_left)) as pool:
         log.write(now + "\n")
         for n, (mutant, (verdict, why)) in enumerate(itertools.chain(before, pool.imap(try_one, left)), 1):
