@@ -34,7 +34,7 @@ FIELDS.update({v: k for k, v in list(FIELDS.items()) if v not in FIELDS})
 # where the logic has the names of the library's prelude and of its facades; a mutant may need one that its file does not use
 LOGIC = {
     "mathlib.Core.Path": ["◌≡◌", "refl"], "mathlib.Core.Bool": ["Bool", "true", "false", "cond", "not", "◌&&◌", "◌||◌"],
-    "mathlib.Core.List": ["List", "[]", "◌∷◌", "◌++◌", "map"], "mathlib.Core.Option": ["Option", "none", "some"],
+    "mathlib.Core.List": ["List", "[]", "◌∷◌", "◌++◌", "map"], "mathlib.Core.Option": ["Option", "none", "some", "none as None", "some as Some"],
     "Prim.Native.Nat": ["ℕ", "zero", "suc", "◌+◌", "◌-◌", "◌*◌", "◌/◌", "◌%◌", "◌^◌", "◌≤◌", "◌<◌", "min"],
     "lib.Dec": ["eqb", "ltb", "leb"], "lib.ListN": ["length", "get_or", "take", "drop", "set", "replicate"],
     "lib.IntN": ["ℤ", "pos", "negsuc", "◌+ℤ◌", "◌-ℤ◌", "◌*ℤ◌", "neg_ℤ", "nat_abs"], "lib.Signed": ["lt_z", "le_z"], "denote.Ref": ["Bor"],

@@ -455,10 +455,11 @@ use Rattle.pmv.specs.declared.kinds.ChromaFormat.TheVariants as ChromaFormat
 use Rattle.pmv.specs.declared.kinds.ChromaFormat.{ChromaFormat}
 use Rattle.inter_reconstruction.specs.Components.{ColourComponent, luma, cb, cr}
 use Rattle.inter_reconstruction.specs.Frames.{Samples, samplesOf, lengthsOf, isPresent, readReference}
-use Rattle.inter_reconstruction.specs.Motion.{frameUses, fieldUses}
+use Rattle.inter_reconstruction.specs.Motion.{remaining, frameWanted, fieldWanted, frameUses, fieldUses}
 use Rattle.inter_reconstruction.specs.Macroblock.{fieldSample, directionSample, usedSample, rectangle, macroblock, predicted}
 use Rattle.inter_reconstruction.specs.Refusals.{sameGeometry, planesFit, predictionRefusal}
-use Rattle.inter_reconstruction.specs.Answers.{predictionNumber, predictionAnswer}
+use Rattle.inter_reconstruction.specs.Answers.{predictionNumber, predictionDirections, accepted, predictionAnswer}
+use Rattle.inter_reconstruction.specs.declared.motion.UsedDirections.TheVariants as Used
 use Rattle.inter_reconstruction.specs.declared.frames.FrameGeometry.{FrameGeometry}
 use Rattle.inter_reconstruction.specs.declared.frames.FrameBuffer.{FrameBuffer}
 use Rattle.inter_reconstruction.specs.declared.frames.ReferenceFrame.{ReferenceFrame}
@@ -505,6 +506,9 @@ abbrev lengths : ℕ → ℕ → ℕ → ColourComponent → ℕ
 lengths a b c luma = a
 lengths a b c cb = b
 lengths a b c cr = c"""
+
+
+USED = {"1": "Used.Forward", "2": "Used.Backward", "3": "Used.Both"}
 
 
 def plane_samples(seed, count):
@@ -591,11 +595,13 @@ def macroblocks(repository):
     no_planes = [0] * 10
     # what is refused, from numbers alone
     signature = lambda x: (x[0], x[1][0], tail(x[1])[2], tuple(x[1][1:14]), tuple(x[2] or [])[:9], tuple(x[3] or [])[:9])
-    for group, c, f, b in selection(calls.calls, lambda x: signature(x) if x[0] in "abdemnqrst" else None, 1, 260):
-        refusal, _, _, _, _, rest = call(c, f or no_planes, b or no_planes, numbers(f or no_planes), numbers(b or no_planes))
+    for group, c, f, b in selection(calls.calls, lambda x: signature(x) if x[0] in "abdemnqrstw" else None, 1, 260):
+        refusal, _, _, _, u, rest = call(c, f or no_planes, b or no_planes, numbers(f or no_planes), numbers(b or no_planes))
         answer = int(rest[2])
-        said = f"Refused {answer}" if answer else "Done"
-        m.case(f"predictionAnswer ({refusal}) ≡ {said}", f"predictionNumber ({said}) ≡ {answer}")
+        said = f"predictionAnswer ({refusal}) (accepted {u})"
+        used = "none" if answer else f"some {USED[rest[3]]}"
+        wanted = u.replace("Uses (", "Wanted (", 1).replace(" (isPresent", ") (isPresent", 1)
+        m.case(f"predictionNumber ({said}) ≡ {answer}", f"predictionDirections ({said}) ≡ {used}", f"remaining ({wanted[1:-1]} ≡ {u}")
     several = selection([x for x in calls.calls if x[0] == "u"], lambda x: tuple(x[1][1:14]) + tuple(tail(x[1])[1:3]), 1, 150)
     several += selection([x for x in calls.calls if x[0] == "v"], lambda x: 0, len(calls.calls), len(calls.calls))
     for group, c, f, b in several:
@@ -610,11 +616,11 @@ def macroblocks(repository):
     for n, (group, c, f, b) in enumerate(taken):
         fp, bp = named(f), named(b)
         refusal, dest, forward, backward, u, rest = call(c, f, b, f"(lengthsOf {fp})", f"(lengthsOf {bp})")
-        after = hexed(rest[3])
+        after = hexed(rest[4])
         if not after:
             continue
         value = f"predicted rounded {dest}.chroma_format (readReference {forward} {fp}) (readReference {backward} {bp}) {u} {c[12]} {c[13]}"
-        number = f"predictionNumber (predictionAnswer ({refusal}))"
+        number = f"predictionNumber (predictionAnswer ({refusal}) (accepted {u}))"
         m.define(f"abbrev block{n} : List ℕ\nblock{n} = unlessRefused ({number}) ({value}) (filled {rest[0]} {rest[1]})")
         chroma = (len(after) - 256) // 2
         spots = [0, 17 + n % 7, 256 + n % chroma, 256 + chroma - 1, 256 + chroma + (11 * n) % chroma, len(after) - 1, (37 * n) % 256]

@@ -17,10 +17,10 @@ def from_logic(m):
     """the imports of a line from std, from where the logic has the names: a check that reads no library takes a fifth of the time"""
     lines = []
     for name in (n.strip() for n in m.group(1).split(",")):
-        modules = [module for module, names in antt.LOGIC.items() if name in names]
-        if not modules:
+        found = [(module, n) for module, names in antt.LOGIC.items() for n in names if n.split(" as ")[-1] == name]
+        if not found:
             raise ValueError(f"antt.py does not say where the logic has {name}")
-        lines.append(f"use {modules[0]}.{{{name}}}")
+        lines.append(f"use {found[0][0]}.{{{found[0][1]}}}")
     return "\n".join(lines)
 
 

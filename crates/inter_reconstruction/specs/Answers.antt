@@ -1,6 +1,7 @@
 -- The answer of a prediction call, by docs/SCOPE.md: the number of each case, 0 for acceptance, and what an accepted one tells. Nothing here is
 -- the standard's.
-use Rattle.std.specs.Prelude.{ℕ, zero, suc, Option, Some, None}
+use Rattle.std.specs.Prelude.{ℕ, zero, suc}
+use Rattle.std.proofs.Math.Option.{Option, none, some}
 use Rattle.inter_reconstruction.specs.declared.motion.Uses.{Uses}
 use Rattle.inter_reconstruction.specs.declared.motion.UsedDirections.{UsedDirections}
 use Rattle.inter_reconstruction.specs.declared.motion.UsedDirections.TheVariants.{Forward, Backward, Both}
@@ -13,8 +14,8 @@ predictionNumber (Done a) = 0
 predictionNumber (Refused n) = n
 
 abbrev pub predictionDirections : MacroblockPrediction → Option UsedDirections
-predictionDirections (Done a) = Some a.directions
-predictionDirections (Refused n) = None
+predictionDirections (Done a) = some a.directions
+predictionDirections (Refused n) = none
 
 -- the directions that a macroblock is predicted from, without their motion
 abbrev pub directionsOf : Uses → UsedDirections

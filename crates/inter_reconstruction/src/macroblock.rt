@@ -1,5 +1,6 @@
 //! ISO/IEC 13818-2, 7.6.4 to 7.6.7: the calls that predict a macroblock, with all that they refuse.
-ghost use Rattle.std.specs.Prelude.{◌≡◌, ◌++◌, ◌+◌, ◌*◌, ◌%◌, ◌≤◌, ◌<◌, length, Some, false};
+ghost use Rattle.std.specs.Prelude.{◌≡◌, ◌++◌, ◌+◌, ◌*◌, ◌%◌, ◌≤◌, ◌<◌, length, false};
+ghost use Rattle.std.proofs.Math.Option.{some};
 ghost use Rattle.laws.specs.Tabulate.{tabulate};
 ghost use Rattle.combine_predictions.specs.Refusals.{unlessRefused};
 ghost use Rattle.forming_predictions.specs.Means.{rounded};
@@ -769,7 +770,7 @@ pub fn predict_frame_macroblock_planes(
         let refusal = predictionRefusal dest (length out.old) forward forward_lengths backward backward_lengths used mb_col mb_row in
         result ≡ predictionAnswer refusal (accepted used) }
     ensures directions { let used = frameUses motion (isPresent forward) (isPresent backward) in
-        predictionNumber result ≡ 0 → predictionDirections result ≡ Some (directionsOf used) }
+        predictionNumber result ≡ 0 → predictionDirections result ≡ some (directionsOf used) }
     ensures buffer { let used = frameUses motion (isPresent forward) (isPresent backward) in
         let forward_read = readReference forward (samplesOf forward_y.now forward_cb.now forward_cr.now) in
         let backward_read = readReference backward (samplesOf backward_y.now backward_cb.now backward_cr.now) in
@@ -870,7 +871,7 @@ pub fn predict_field_based_macroblock_planes(
         let refusal = predictionRefusal dest (length out.old) forward forward_lengths backward backward_lengths used mb_col mb_row in
         result ≡ predictionAnswer refusal (accepted used) }
     ensures directions { let used = fieldUses motion (isPresent forward) (isPresent backward) in
-        predictionNumber result ≡ 0 → predictionDirections result ≡ Some (directionsOf used) }
+        predictionNumber result ≡ 0 → predictionDirections result ≡ some (directionsOf used) }
     ensures buffer { let used = fieldUses motion (isPresent forward) (isPresent backward) in
         let forward_read = readReference forward (samplesOf forward_y.now forward_cb.now forward_cr.now) in
         let backward_read = readReference backward (samplesOf backward_y.now backward_cb.now backward_cr.now) in
