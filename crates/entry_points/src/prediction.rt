@@ -254,8 +254,25 @@ pub fn fozdrik_predict_frame_macroblock(
     backward_vertical: i32,
     out: &mut [u8],
 ) -> u32
-    ensures number { result ≡ or_else (unknownRefusal (frameKnown chroma_format forward_present forward_format backward_present backward_format forward_motion backward_motion)) (predictionRefusal (geometryOf width height chroma_format) (length out.old) (referenceOf forward_present forward_width forward_height forward_format forward_y_width forward_y_height forward_cb_width forward_cb_height forward_cr_width forward_cr_height) (lengthsOf (samplesOf forward_y.now forward_cb.now forward_cr.now)) (referenceOf backward_present backward_width backward_height backward_format backward_y_width backward_y_height backward_cb_width backward_cb_height backward_cr_width backward_cr_height) (lengthsOf (samplesOf backward_y.now backward_cb.now backward_cr.now)) (frameUses (frameMotionOf forward_motion forward_horizontal forward_vertical backward_motion backward_horizontal backward_vertical) (isPresent (referenceOf forward_present forward_width forward_height forward_format forward_y_width forward_y_height forward_cb_width forward_cb_height forward_cr_width forward_cr_height)) (isPresent (referenceOf backward_present backward_width backward_height backward_format backward_y_width backward_y_height backward_cb_width backward_cb_height backward_cr_width backward_cr_height))) mb_col mb_row) }
-    ensures buffer { out.new ≡ unlessRefused result (predicted rounded (geometryOf width height chroma_format).chroma_format (readReference (referenceOf forward_present forward_width forward_height forward_format forward_y_width forward_y_height forward_cb_width forward_cb_height forward_cr_width forward_cr_height) (samplesOf forward_y.now forward_cb.now forward_cr.now)) (readReference (referenceOf backward_present backward_width backward_height backward_format backward_y_width backward_y_height backward_cb_width backward_cb_height backward_cr_width backward_cr_height) (samplesOf backward_y.now backward_cb.now backward_cr.now)) (frameUses (frameMotionOf forward_motion forward_horizontal forward_vertical backward_motion backward_horizontal backward_vertical) (isPresent (referenceOf forward_present forward_width forward_height forward_format forward_y_width forward_y_height forward_cb_width forward_cb_height forward_cr_width forward_cr_height)) (isPresent (referenceOf backward_present backward_width backward_height backward_format backward_y_width backward_y_height backward_cb_width backward_cb_height backward_cr_width backward_cr_height))) mb_col mb_row) out.old }
+    ensures number { let known = frameKnown chroma_format forward_present forward_format backward_present backward_format forward_motion backward_motion in
+        let dest = geometryOf width height chroma_format in
+        let forward = referenceOf forward_present forward_width forward_height forward_format forward_y_width forward_y_height forward_cb_width forward_cb_height forward_cr_width forward_cr_height in
+        let backward = referenceOf backward_present backward_width backward_height backward_format backward_y_width backward_y_height backward_cb_width backward_cb_height backward_cr_width backward_cr_height in
+        let forward_lengths = lengthsOf (samplesOf forward_y.now forward_cb.now forward_cr.now) in
+        let backward_lengths = lengthsOf (samplesOf backward_y.now backward_cb.now backward_cr.now) in
+        let motion = frameMotionOf forward_motion forward_horizontal forward_vertical backward_motion backward_horizontal backward_vertical in
+        let used = frameUses motion (isPresent forward) (isPresent backward) in
+        let refusal = predictionRefusal dest (length out.old) forward forward_lengths backward backward_lengths used mb_col mb_row in
+        result ≡ or_else (unknownRefusal known) refusal }
+    ensures buffer { let dest = geometryOf width height chroma_format in
+        let forward = referenceOf forward_present forward_width forward_height forward_format forward_y_width forward_y_height forward_cb_width forward_cb_height forward_cr_width forward_cr_height in
+        let backward = referenceOf backward_present backward_width backward_height backward_format backward_y_width backward_y_height backward_cb_width backward_cb_height backward_cr_width backward_cr_height in
+        let motion = frameMotionOf forward_motion forward_horizontal forward_vertical backward_motion backward_horizontal backward_vertical in
+        let used = frameUses motion (isPresent forward) (isPresent backward) in
+        let forward_read = readReference forward (samplesOf forward_y.now forward_cb.now forward_cr.now) in
+        let backward_read = readReference backward (samplesOf backward_y.now backward_cb.now backward_cr.now) in
+        let prediction = predicted rounded dest.chroma_format forward_read backward_read used mb_col mb_row in
+        out.new ≡ unlessRefused result prediction out.old }
 {
     if !frame_known(
         chroma_format,
@@ -359,8 +376,29 @@ pub fn fozdrik_predict_field_macroblock(
     backward_bottom_vertical: i32,
     out: &mut [u8],
 ) -> u32
-    ensures number { result ≡ or_else (unknownRefusal (fieldKnown chroma_format forward_present forward_format backward_present backward_format forward_motion forward_top_field forward_bottom_field backward_motion backward_top_field backward_bottom_field)) (predictionRefusal (geometryOf width height chroma_format) (length out.old) (referenceOf forward_present forward_width forward_height forward_format forward_y_width forward_y_height forward_cb_width forward_cb_height forward_cr_width forward_cr_height) (lengthsOf (samplesOf forward_y.now forward_cb.now forward_cr.now)) (referenceOf backward_present backward_width backward_height backward_format backward_y_width backward_y_height backward_cb_width backward_cb_height backward_cr_width backward_cr_height) (lengthsOf (samplesOf backward_y.now backward_cb.now backward_cr.now)) (fieldUses (fieldMotionOf forward_motion forward_top_field forward_top_horizontal forward_top_vertical forward_bottom_field forward_bottom_horizontal forward_bottom_vertical backward_motion backward_top_field backward_top_horizontal backward_top_vertical backward_bottom_field backward_bottom_horizontal backward_bottom_vertical) (isPresent (referenceOf forward_present forward_width forward_height forward_format forward_y_width forward_y_height forward_cb_width forward_cb_height forward_cr_width forward_cr_height)) (isPresent (referenceOf backward_present backward_width backward_height backward_format backward_y_width backward_y_height backward_cb_width backward_cb_height backward_cr_width backward_cr_height))) mb_col mb_row) }
-    ensures buffer { out.new ≡ unlessRefused result (predicted rounded (geometryOf width height chroma_format).chroma_format (readReference (referenceOf forward_present forward_width forward_height forward_format forward_y_width forward_y_height forward_cb_width forward_cb_height forward_cr_width forward_cr_height) (samplesOf forward_y.now forward_cb.now forward_cr.now)) (readReference (referenceOf backward_present backward_width backward_height backward_format backward_y_width backward_y_height backward_cb_width backward_cb_height backward_cr_width backward_cr_height) (samplesOf backward_y.now backward_cb.now backward_cr.now)) (fieldUses (fieldMotionOf forward_motion forward_top_field forward_top_horizontal forward_top_vertical forward_bottom_field forward_bottom_horizontal forward_bottom_vertical backward_motion backward_top_field backward_top_horizontal backward_top_vertical backward_bottom_field backward_bottom_horizontal backward_bottom_vertical) (isPresent (referenceOf forward_present forward_width forward_height forward_format forward_y_width forward_y_height forward_cb_width forward_cb_height forward_cr_width forward_cr_height)) (isPresent (referenceOf backward_present backward_width backward_height backward_format backward_y_width backward_y_height backward_cb_width backward_cb_height backward_cr_width backward_cr_height))) mb_col mb_row) out.old }
+    ensures number { let known = fieldKnown chroma_format forward_present forward_format backward_present backward_format forward_motion forward_top_field forward_bottom_field backward_motion backward_top_field backward_bottom_field in
+        let dest = geometryOf width height chroma_format in
+        let forward = referenceOf forward_present forward_width forward_height forward_format forward_y_width forward_y_height forward_cb_width forward_cb_height forward_cr_width forward_cr_height in
+        let backward = referenceOf backward_present backward_width backward_height backward_format backward_y_width backward_y_height backward_cb_width backward_cb_height backward_cr_width backward_cr_height in
+        let forward_lengths = lengthsOf (samplesOf forward_y.now forward_cb.now forward_cr.now) in
+        let backward_lengths = lengthsOf (samplesOf backward_y.now backward_cb.now backward_cr.now) in
+        let motion = fieldMotionOf
+            forward_motion forward_top_field forward_top_horizontal forward_top_vertical forward_bottom_field forward_bottom_horizontal forward_bottom_vertical
+            backward_motion backward_top_field backward_top_horizontal backward_top_vertical backward_bottom_field backward_bottom_horizontal backward_bottom_vertical in
+        let used = fieldUses motion (isPresent forward) (isPresent backward) in
+        let refusal = predictionRefusal dest (length out.old) forward forward_lengths backward backward_lengths used mb_col mb_row in
+        result ≡ or_else (unknownRefusal known) refusal }
+    ensures buffer { let dest = geometryOf width height chroma_format in
+        let forward = referenceOf forward_present forward_width forward_height forward_format forward_y_width forward_y_height forward_cb_width forward_cb_height forward_cr_width forward_cr_height in
+        let backward = referenceOf backward_present backward_width backward_height backward_format backward_y_width backward_y_height backward_cb_width backward_cb_height backward_cr_width backward_cr_height in
+        let motion = fieldMotionOf
+            forward_motion forward_top_field forward_top_horizontal forward_top_vertical forward_bottom_field forward_bottom_horizontal forward_bottom_vertical
+            backward_motion backward_top_field backward_top_horizontal backward_top_vertical backward_bottom_field backward_bottom_horizontal backward_bottom_vertical in
+        let used = fieldUses motion (isPresent forward) (isPresent backward) in
+        let forward_read = readReference forward (samplesOf forward_y.now forward_cb.now forward_cr.now) in
+        let backward_read = readReference backward (samplesOf backward_y.now backward_cb.now backward_cr.now) in
+        let prediction = predicted rounded dest.chroma_format forward_read backward_read used mb_col mb_row in
+        out.new ≡ unlessRefused result prediction out.old }
 {
     if !field_known(
         chroma_format,

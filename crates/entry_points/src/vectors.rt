@@ -319,9 +319,18 @@ pub fn fozdrik_reconstruct_motion_vector(
     predictors: &mut [u8],
     vector: &mut [u8],
 ) -> u32
-    ensures number { result ≡ or_else (unknownRefusal (vectorKnown r s motion_residual_horiz_present motion_residual_vert_present mv_format picture_structure (length predictors.old) (length vector.old))) (vectorNumber (vectorFrom predictors.old (indexOf r) (directionOf s) (motionVectorOf motion_code_horiz motion_residual_horiz_present motion_residual_horiz motion_code_vert motion_residual_vert_present motion_residual_vert) f_code_horiz f_code_vert (format_of mv_format) (structureOf picture_structure)).answer) }
-    ensures predictors { predictors.new ≡ cond (vectorKnown r s motion_residual_horiz_present motion_residual_vert_present mv_format picture_structure (length predictors.old) (length vector.old)) (withPair predictors.old (indexOf r) (directionOf s) (vectorFrom predictors.old (indexOf r) (directionOf s) (motionVectorOf motion_code_horiz motion_residual_horiz_present motion_residual_horiz motion_code_vert motion_residual_vert_present motion_residual_vert) f_code_horiz f_code_vert (format_of mv_format) (structureOf picture_structure)).predictors) predictors.old }
-    ensures vector { vector.new ≡ cond (vectorKnown r s motion_residual_horiz_present motion_residual_vert_present mv_format picture_structure (length predictors.old) (length vector.old)) (vectorBytes (vectorFrom predictors.old (indexOf r) (directionOf s) (motionVectorOf motion_code_horiz motion_residual_horiz_present motion_residual_horiz motion_code_vert motion_residual_vert_present motion_residual_vert) f_code_horiz f_code_vert (format_of mv_format) (structureOf picture_structure)).answer vector.old) vector.old }
+    ensures number { let known = vectorKnown r s motion_residual_horiz_present motion_residual_vert_present mv_format picture_structure (length predictors.old) (length vector.old) in
+        let coded = motionVectorOf motion_code_horiz motion_residual_horiz_present motion_residual_horiz motion_code_vert motion_residual_vert_present motion_residual_vert in
+        let decoded = vectorFrom predictors.old (indexOf r) (directionOf s) coded f_code_horiz f_code_vert (format_of mv_format) (structureOf picture_structure) in
+        result ≡ or_else (unknownRefusal known) (vectorNumber decoded.answer) }
+    ensures predictors { let known = vectorKnown r s motion_residual_horiz_present motion_residual_vert_present mv_format picture_structure (length predictors.old) (length vector.old) in
+        let coded = motionVectorOf motion_code_horiz motion_residual_horiz_present motion_residual_horiz motion_code_vert motion_residual_vert_present motion_residual_vert in
+        let decoded = vectorFrom predictors.old (indexOf r) (directionOf s) coded f_code_horiz f_code_vert (format_of mv_format) (structureOf picture_structure) in
+        predictors.new ≡ cond known (withPair predictors.old (indexOf r) (directionOf s) decoded.predictors) predictors.old }
+    ensures vector { let known = vectorKnown r s motion_residual_horiz_present motion_residual_vert_present mv_format picture_structure (length predictors.old) (length vector.old) in
+        let coded = motionVectorOf motion_code_horiz motion_residual_horiz_present motion_residual_horiz motion_code_vert motion_residual_vert_present motion_residual_vert in
+        let decoded = vectorFrom predictors.old (indexOf r) (directionOf s) coded f_code_horiz f_code_vert (format_of mv_format) (structureOf picture_structure) in
+        vector.new ≡ cond known (vectorBytes decoded.answer vector.old) vector.old }
 {
     if !vector_known(
         r,
@@ -372,9 +381,13 @@ pub fn fozdrik_update_predictors(
     predictors: &mut [u8],
     outcome: &mut [u8],
 ) -> u32
-    ensures number { result ≡ or_else (unknownRefusal (updateKnown picture_structure prediction_type_present prediction_type macroblock_motion_forward macroblock_motion_backward macroblock_intra concealment_motion_vectors (length predictors.old) (length outcome.old))) (updateRefusal (context_of picture_structure prediction_type_present prediction_type macroblock_motion_forward macroblock_motion_backward macroblock_intra concealment_motion_vectors)) }
-    ensures predictors { predictors.new ≡ unlessRefused result (predictorBytes (updated (predictorsOf predictors.old) (context_of picture_structure prediction_type_present prediction_type macroblock_motion_forward macroblock_motion_backward macroblock_intra concealment_motion_vectors)).pmv) predictors.old }
-    ensures outcome { outcome.new ≡ unlessRefused result (outcomeNumber (updateOutcome (context_of picture_structure prediction_type_present prediction_type macroblock_motion_forward macroblock_motion_backward macroblock_intra concealment_motion_vectors)) ∷ []) outcome.old }
+    ensures number { let known = updateKnown picture_structure prediction_type_present prediction_type macroblock_motion_forward macroblock_motion_backward macroblock_intra concealment_motion_vectors (length predictors.old) (length outcome.old) in
+        let context = context_of picture_structure prediction_type_present prediction_type macroblock_motion_forward macroblock_motion_backward macroblock_intra concealment_motion_vectors in
+        result ≡ or_else (unknownRefusal known) (updateRefusal context) }
+    ensures predictors { let context = context_of picture_structure prediction_type_present prediction_type macroblock_motion_forward macroblock_motion_backward macroblock_intra concealment_motion_vectors in
+        predictors.new ≡ unlessRefused result (predictorBytes (updated (predictorsOf predictors.old) context).pmv) predictors.old }
+    ensures outcome { let context = context_of picture_structure prediction_type_present prediction_type macroblock_motion_forward macroblock_motion_backward macroblock_intra concealment_motion_vectors in
+        outcome.new ≡ unlessRefused result (outcomeNumber (updateOutcome context) ∷ []) outcome.old }
 {
     if !update_known(
         picture_structure,
