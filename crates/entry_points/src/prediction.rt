@@ -383,8 +383,8 @@ pub fn fozdrik_predict_field_macroblock(
         let forward_lengths = lengthsOf (samplesOf forward_y.now forward_cb.now forward_cr.now) in
         let backward_lengths = lengthsOf (samplesOf backward_y.now backward_cb.now backward_cr.now) in
         let motion = fieldMotionOf
-            forward_motion forward_top_field forward_top_horizontal forward_top_vertical forward_bottom_field forward_bottom_horizontal forward_bottom_vertical
-            backward_motion backward_top_field backward_top_horizontal backward_top_vertical backward_bottom_field backward_bottom_horizontal backward_bottom_vertical in
+        forward_motion forward_top_field forward_top_horizontal forward_top_vertical forward_bottom_field forward_bottom_horizontal forward_bottom_vertical
+        backward_motion backward_top_field backward_top_horizontal backward_top_vertical backward_bottom_field backward_bottom_horizontal backward_bottom_vertical in
         let used = fieldUses motion (isPresent forward) (isPresent backward) in
         let refusal = predictionRefusal dest (length out.old) forward forward_lengths backward backward_lengths used mb_col mb_row in
         result ≡ or_else (unknownRefusal known) refusal }
@@ -392,8 +392,8 @@ pub fn fozdrik_predict_field_macroblock(
         let forward = referenceOf forward_present forward_width forward_height forward_format forward_y_width forward_y_height forward_cb_width forward_cb_height forward_cr_width forward_cr_height in
         let backward = referenceOf backward_present backward_width backward_height backward_format backward_y_width backward_y_height backward_cb_width backward_cb_height backward_cr_width backward_cr_height in
         let motion = fieldMotionOf
-            forward_motion forward_top_field forward_top_horizontal forward_top_vertical forward_bottom_field forward_bottom_horizontal forward_bottom_vertical
-            backward_motion backward_top_field backward_top_horizontal backward_top_vertical backward_bottom_field backward_bottom_horizontal backward_bottom_vertical in
+        forward_motion forward_top_field forward_top_horizontal forward_top_vertical forward_bottom_field forward_bottom_horizontal forward_bottom_vertical
+        backward_motion backward_top_field backward_top_horizontal backward_top_vertical backward_bottom_field backward_bottom_horizontal backward_bottom_vertical in
         let used = fieldUses motion (isPresent forward) (isPresent backward) in
         let forward_read = readReference forward (samplesOf forward_y.now forward_cb.now forward_cr.now) in
         let backward_read = readReference backward (samplesOf backward_y.now backward_cb.now backward_cr.now) in

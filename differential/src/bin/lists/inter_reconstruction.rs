@@ -1062,26 +1062,18 @@ another width, height or format; 14 where a plane of it does not fit; 15 where b
         for there in REFERENCES {
             let absent = REFERENCES[1 - there as usize];
             let fitting = picture_planes(32, 32, format);
-            let alone = |request: Request| match there {
+            let with = |request: Request, reference, geometry| match reference {
                 Direction::Forward => Request {
-                    backward: None,
+                    forward: geometry,
                     ..request
                 },
                 Direction::Backward => Request {
-                    forward: None,
+                    backward: geometry,
                     ..request
                 },
             };
-            let declares = |request: Request, other| match there {
-                Direction::Forward => Request {
-                    forward: other,
-                    ..request
-                },
-                Direction::Backward => Request {
-                    backward: other,
-                    ..request
-                },
-            };
+            let alone = |request| with(request, absent, None);
+            let declares = |request, other| with(request, there, other);
             maker.picture(32, 32, format);
             let unread = [sides(OVER, 1), sides(3, 5), sides(0, 0)];
             maker.set(absent, unread);
