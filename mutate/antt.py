@@ -15,11 +15,11 @@ OPERATORS = {
 }  # fmt: skip
 NAMES = {
     "ltb": "leb", "leb": "ltb", "lt_z": "le_z", "le_z": "lt_z", "eqb": "leb", "true": "false", "false": "true", "take": "drop", "drop": "take",
-    "floorHalf": "truncHalf", "truncHalf": "floorHalf", "mean2": "mean4", "pos": "negsuc", "negsuc": "pos", "none": "some 0",
-    "chromaHorizontal": "chromaVertical", "chromaVertical": "chromaHorizontal", "chromaColumns": "chromaLines", "chromaLines": "chromaColumns",
-    "columnsOf": "lines_of", "lines_of": "columnsOf", "blockWidth": "blockHeight", "blockHeight": "blockWidth", "luma": "cb", "cb": "cr", "cr": "cb",
-    "row_at": "columnAt", "columnAt": "row_at", "firstColumn": "firstRow", "firstRow": "firstColumn", "forwardMissing": "backwardMissing",
-    "backwardMissing": "forwardMissing", "horizontalRefusal": "verticalRefusal", "verticalRefusal": "horizontalRefusal",
+    "floor_half": "trunc_half", "trunc_half": "floor_half", "mean2": "mean4", "pos": "negsuc", "negsuc": "pos", "none": "some 0",
+    "chroma_horizontal": "chroma_vertical", "chroma_vertical": "chroma_horizontal", "chroma_columns": "chroma_lines", "chroma_lines": "chroma_columns",
+    "columns_of": "lines_of", "lines_of": "columns_of", "block_width": "block_height", "block_height": "block_width", "luma": "cb", "cb": "cr", "cr": "cb",
+    "row_at": "column_at", "column_at": "row_at", "first_column": "first_row", "first_row": "first_column", "forward_missing": "backward_missing",
+    "backward_missing": "forward_missing", "horizontal_refusal": "vertical_refusal", "vertical_refusal": "horizontal_refusal",
     "raised": "lowered", "lowered": "raised", "frame": "field Top",
 }  # fmt: skip
 # fields that are mistaken for each other
@@ -244,9 +244,9 @@ def brought(text, edit):
             if name.strip("◌") in wanted and name not in used:
                 lines.append(f"use {module}.{{{name}}}")
     others = {
-        "truncHalf": "Rattle.pmv.specs.Chroma", "floorHalf": "Rattle.forming_predictions.specs.Splitting", "mean4": "Rattle.forming_predictions.specs.Means",
-        "chromaVertical": "Rattle.pmv.specs.Chroma", "columnsOf": "Rattle.inter_reconstruction.specs.Components",
-        "lines_of": "Rattle.inter_reconstruction.specs.Components", "blockHeight": "Rattle.inter_reconstruction.specs.Components",
+        "trunc_half": "Rattle.pmv.specs.Chroma", "floor_half": "Rattle.forming_predictions.specs.Splitting", "mean4": "Rattle.forming_predictions.specs.Means",
+        "chroma_vertical": "Rattle.pmv.specs.Chroma", "columns_of": "Rattle.inter_reconstruction.specs.Components",
+        "lines_of": "Rattle.inter_reconstruction.specs.Components", "block_height": "Rattle.inter_reconstruction.specs.Components",
         "Top": "Rattle.forming_predictions.specs.declared.FieldParity.TheVariants",
     }  # fmt: skip
     for name, module in others.items():

@@ -113,8 +113,8 @@ def averaging(repository):
     m = Module(
         """
 use Rattle.std.specs.Borrow.{Bor}
-use Rattle.combine_predictions.specs.Refusals.{unlessRefused}
-use Rattle.combine_predictions.specs.Averaging.{averaged, averageAnswer, number_of}
+use Rattle.combine_predictions.specs.Refusals.{unless_refused}
+use Rattle.combine_predictions.specs.Averaging.{averaged, average_answer, number_of}
 use Rattle.combine_predictions.specs.Choosing.{chosen}
 use Rattle.combine_predictions.specs.declared.Averaged.TheVariants.{Done, Refused}
 use Rattle.combine_predictions.specs.declared.PredictionDirection.TheVariants.{Forward, Backward, Skipped}
@@ -126,8 +126,8 @@ use Rattle.combine_predictions.specs.declared.PredictionDirection.TheVariants.{F
     for group, c in selection([x for x in cases if x[1][0] == "1"], lambda x: (x[0], x[1][5], len(x[1][1]) < 60), 4, 40):
         forward, backward, answer = hexed(c[1]), hexed(c[2]), int(c[5])
         said = f"Refused {answer}" if answer else "Done"
-        call = f"averageAnswer {len(forward)} {len(backward)} {c[4]}"
-        after = f"unlessRefused (number_of ({call})) (averaged {lst(forward)} {lst(backward)}) (filled {c[3]} {c[4]})"
+        call = f"average_answer {len(forward)} {len(backward)} {c[4]}"
+        after = f"unless_refused (number_of ({call})) (averaged {lst(forward)} {lst(backward)}) (filled {c[3]} {c[4]})"
         m.case(f"{call} ≡ {said}", f"{after} ≡ {lst(hexed(c[6]))}")
     directions = {"0": "Forward", "1": "Backward", "3": "Skipped"}
     for group, c in selection([x for x in cases if x[1][0] == "2" and x[1][2] != x[1][3]], lambda x: x[1][1], 1, 9):
@@ -150,22 +150,22 @@ def side(v, n):
 def forming(repository):
     m = Module(
         """
-use Rattle.combine_predictions.specs.Refusals.{unlessRefused}
-use Rattle.forming_predictions.specs.Splitting.{floorHalf, halfFlag, IsSplit, horizontalHalf, verticalHalf}
-use Rattle.forming_predictions.specs.Lines.{frame, field, fieldLines, clampTo, row_of, sampleAt}
+use Rattle.combine_predictions.specs.Refusals.{unless_refused}
+use Rattle.forming_predictions.specs.Splitting.{floor_half, half_flag, IsSplit, horizontal_half, vertical_half}
+use Rattle.forming_predictions.specs.Lines.{frame, field, field_lines, clamp_to, row_of, sample_at}
 use Rattle.forming_predictions.specs.Means.{rounded}
-use Rattle.forming_predictions.specs.Forming.{combined, formed, block_of, predictedBlock}
-use Rattle.forming_predictions.specs.Refusals.{planeFits, positionFits, blockSideFits, planeRefusal, sampleRefusal, blockRefusal}
-use Rattle.forming_predictions.specs.SampleAnswers.{sampleNumber, sampleValue, valueUnless, sampleAnswer}
-use Rattle.forming_predictions.specs.BlockAnswers.{blockNumber, blockAnswer}
+use Rattle.forming_predictions.specs.Forming.{combined, formed, block_of, predicted_block}
+use Rattle.forming_predictions.specs.Refusals.{plane_fits, position_fits, block_side_fits, plane_refusal, sample_refusal, block_refusal}
+use Rattle.forming_predictions.specs.SampleAnswers.{sample_number, sample_value, value_unless, sample_answer}
+use Rattle.forming_predictions.specs.BlockAnswers.{block_number, block_answer}
 use Rattle.forming_predictions.specs.declared.ComponentSplit.{ComponentSplit}
 use Rattle.forming_predictions.specs.declared.FieldParity.TheVariants.{Top, Bottom}
 use Rattle.forming_predictions.specs.declared.HalfPattern.TheVariants.{Integer, HalfHorizontal, HalfVertical, HalfBoth}
 use Rattle.forming_predictions.specs.declared.Sampled.TheVariants.{Sample, Refused}
 use Rattle.forming_predictions.specs.declared.Predicted.TheVariants as Block
 """,
-        "tabulate floorHalf halfFlag fieldLines clampTo row_of sampleAt combined formed block_of planeFits positionFits blockSideFits "
-        "sampleRefusal blockRefusal",
+        "tabulate floor_half half_flag field_lines clamp_to row_of sample_at combined formed block_of plane_fits position_fits block_side_fits "
+        "sample_refusal block_refusal",
     )
     m.define(FILLED)
     cases = read_list(repository, "forming_predictions")
@@ -182,14 +182,14 @@ use Rattle.forming_predictions.specs.declared.Predicted.TheVariants as Block
     kind = lambda k: [x for x in called if x[1][0] == k]
     for group, c, _ in selection(kind("1"), lambda x: (int(x[1][1]) < 0, int(x[1][1]) % 4, len(x[1][1]) // 4), 2, 30):
         split = f"record {{ int_vec = {z(c[2])}; half_flag = {flag(c[3])} }}"
-        m.case(f"floorHalf {z(c[1])} ≡ {z(c[2])}", f"halfFlag {z(c[1])} ≡ {flag(c[3])}")
+        m.case(f"floor_half {z(c[1])} ≡ {z(c[2])}", f"half_flag {z(c[1])} ≡ {flag(c[3])}")
         if abs(int(c[1])) < 4:
             m.count += 1
-            m.parts.append(f"pub case{m.count} : IsSplit {z(c[1])} ({split})\nunfolding floorHalf halfFlag\ncase{m.count} = (refl, refl)")
+            m.parts.append(f"pub case{m.count} : IsSplit {z(c[1])} ({split})\nunfolding floor_half halfFlag\ncase{m.count} = (refl, refl)")
     for group, c, _ in selection(kind("3"), lambda x: tuple(x[1]), 1, 4):
-        m.case(f"horizontalHalf {patterns[int(c[3])]} ≡ {flag(c[1])}", f"verticalHalf {patterns[int(c[3])]} ≡ {flag(c[2])}")
+        m.case(f"horizontal_half {patterns[int(c[3])]} ≡ {flag(c[1])}", f"vertical_half {patterns[int(c[3])]} ≡ {flag(c[2])}")
     for group, c, _ in selection(kind("4"), lambda x: x[1][1] if len(x[1][1]) < 3 else len(x[1][1]), 1, 30):
-        m.case(f"fieldLines Top {c[1]} ≡ {c[2]}", f"fieldLines Bottom {c[1]} ≡ {c[3]}")
+        m.case(f"field_lines Top {c[1]} ≡ {c[2]}", f"field_lines Bottom {c[1]} ≡ {c[3]}")
 
     def named(plane):
         w, h, samples = plane
@@ -212,43 +212,43 @@ use Rattle.forming_predictions.specs.declared.Predicted.TheVariants as Block
     few = lambda x: len(x[2][2]) <= 600
     for x in selection([x for x in kind("7") if few(x)], lambda x: shape(x) + (x[1][4],), 1, 70):
         group, c, (w, h, s) = x
-        call = f"sampleAnswer (planeRefusal {w} {h} {len(s)}) (sampleAt {LINES[c[1]]} {w} {h} {named(x[2])} {z(c[2])} {z(c[3])})"
+        call = f"sample_answer (plane_refusal {w} {h} {len(s)}) (sample_at {LINES[c[1]]} {w} {h} {named(x[2])} {z(c[2])} {z(c[3])})"
         said = answered(int(c[4]), c[5])
-        m.case(f"{call} ≡ {said}", f"sampleNumber ({said}) ≡ {c[4]}", f"sampleValue ({said}) ≡ valueUnless {{A = ℕ}} {c[4]} {c[5]}")
+        m.case(f"{call} ≡ {said}", f"sample_number ({said}) ≡ {c[4]}", f"sample_value ({said}) ≡ value_unless {{A = ℕ}} {c[4]} {c[5]}")
     m.case(
-        "valueUnless {A = ℕ} 0 7 ≡ some 7",
-        "valueUnless {A = ℕ} 14 7 ≡ none",
-        "sampleValue (Sample 7) ≡ some 7",
-        "sampleValue (Refused 14) ≡ none",
+        "value_unless {A = ℕ} 0 7 ≡ some 7",
+        "value_unless {A = ℕ} 14 7 ≡ none",
+        "sample_value (Sample 7) ≡ some 7",
+        "sample_value (Refused 14) ≡ none",
     )
     halves = lambda c: (int(c[4]) % 2, int(c[5]) % 2)
     for x in selection([x for x in kind("8") if few(x)], lambda x: (x[1][1], x[1][6], halves(x[1]), x[0], int(x[1][4]) < 0), 1, 90):
         group, c, (w, h, s) = x
-        value = f"formed rounded (sampleAt {LINES[c[1]]} {w} {h} {named(x[2])}) {z(c[2])} {z(c[3])} {z(c[4])} {z(c[5])}"
-        call = f"sampleAnswer (sampleRefusal {w} {h} {len(s)} {z(c[2])} {z(c[3])}) ({value})"
+        value = f"formed rounded (sample_at {LINES[c[1]]} {w} {h} {named(x[2])}) {z(c[2])} {z(c[3])} {z(c[4])} {z(c[5])}"
+        call = f"sample_answer (sample_refusal {w} {h} {len(s)} {z(c[2])} {z(c[3])}) ({value})"
         m.case(f"{call} ≡ {answered(int(c[6]), c[7])}")
     numbers = lambda x: (len(x[2][2]), x[2][0], x[2][1], tuple(x[1][2:4]))
     for x in selection(kind("8"), lambda x: (x[1][6],) + numbers(x) if x[0] in "klmo" else None, 1, 90):
         group, c, (w, h, s) = x
-        m.case(f"sampleRefusal {w} {h} {len(s)} {z(c[2])} {z(c[3])} ≡ {c[6]}")
+        m.case(f"sample_refusal {w} {h} {len(s)} {z(c[2])} {z(c[3])} ≡ {c[6]}")
     for x in selection(kind("7"), lambda x: (x[2][0], x[2][1], len(x[2][2])) if x[0] in "kl" else None, 1, 60):
         group, c, (w, h, s) = x
-        m.case(f"planeRefusal {w} {h} {len(s)} ≡ {c[4]}")
+        m.case(f"plane_refusal {w} {h} {len(s)} ≡ {c[4]}")
     block = lambda c: (int(c[6]) % 2, int(c[7]) % 2)
     small = lambda x: few(x) and int(x[1][9]) <= 40
     for x in selection([x for x in kind("9") if small(x)], lambda x: (x[1][1], x[1][10], block(x[1]), x[0]), 1, 60):
         group, c, (w, h, s) = x
-        call = f"blockRefusal {w} {h} {len(s)} {z(c[2])} {z(c[3])} {c[4]} {c[5]} {c[9]}"
+        call = f"block_refusal {w} {h} {len(s)} {z(c[2])} {z(c[3])} {c[4]} {c[5]} {c[9]}"
         said = f"Block.Refused {c[10]}" if int(c[10]) else "Block.Done"
-        value = f"predictedBlock rounded (sampleAt {LINES[c[1]]} {w} {h} {named(x[2])}) {c[4]} {c[5]} {z(c[2])} {z(c[3])} {z(c[6])} {z(c[7])}"
+        value = f"predicted_block rounded (sample_at {LINES[c[1]]} {w} {h} {named(x[2])}) {c[4]} {c[5]} {z(c[2])} {z(c[3])} {z(c[6])} {z(c[7])}"
         if int(c[4]) * int(c[5]) > 64:
             value = "[]"
-        after = f"unlessRefused (blockNumber (blockAnswer ({call}))) ({value}) (filled {c[8]} {c[9]})"
-        m.case(f"blockAnswer ({call}) ≡ {said}", f"{after} ≡ {lst(hexed(c[11]))}")
+        after = f"unless_refused (block_number (block_answer ({call}))) ({value}) (filled {c[8]} {c[9]})"
+        m.case(f"block_answer ({call}) ≡ {said}", f"{after} ≡ {lst(hexed(c[11]))}")
     limits = lambda x: (x[1][10],) + tuple(x[1][2:6]) + (int(x[1][9]) - int(x[1][4]) * int(x[1][5]),) + (x[2][0], x[2][1], len(x[2][2]))
     for x in selection(kind("9"), lambda x: limits(x) if x[0] in "klmnopq" else None, 1, 160):
         group, c, (w, h, s) = x
-        m.case(f"blockRefusal {w} {h} {len(s)} {z(c[2])} {z(c[3])} {c[4]} {c[5]} {c[9]} ≡ {c[10]}")
+        m.case(f"block_refusal {w} {h} {len(s)} {z(c[2])} {z(c[3])} {c[4]} {c[5]} {c[9]} ≡ {c[10]}")
     return m
 
 
@@ -291,14 +291,14 @@ def residual(present, value):
 
 
 PMV_HEAD = """
-use Rattle.forming_predictions.specs.Splitting.{floorHalf}
-use Rattle.pmv.specs.Delta.{scale, is_plain, delta, fCodeFits, codeFits, fCodeRefusal, codeRefusal, deltaRefusal}
-use Rattle.pmv.specs.Component.{range_of, halves, wrapped, fromDelta, fromDeltaRefusal, deltaOf, componentOf, componentRefusal}
-use Rattle.pmv.specs.Chroma.{truncHalf, scaled}
-use Rattle.pmv.specs.Predictors.{predictor, stored, zeroed, pair_of, pairStored, firstCopied}
-use Rattle.pmv.specs.Vector.{ported, decoded, part, partRefusal, reconstructedPair, vectorRefusal, components, reconstructed}
-use Rattle.pmv.specs.Update.{decidedRefusal, decidedOutcome, updateRefusal, updateOutcome, outcomeNumber, updated, spatialTemporalReset}
-use Rattle.pmv.specs.Answers.{deltaAnswer, deltaNumber, deltaValue, rangeAnswer, rangeNumber, rangeValue, reconstructedAnswer, reconstructedNumber, reconstructedValue, vectorAnswer, vectorNumber, vectorValue, updateNumber, updateValue}
+use Rattle.forming_predictions.specs.Splitting.{floor_half}
+use Rattle.pmv.specs.Delta.{scale, is_plain, delta, f_code_fits, code_fits, f_code_refusal, code_refusal, delta_refusal}
+use Rattle.pmv.specs.Component.{range_of, halves, wrapped, from_delta, from_delta_refusal, delta_of, component_of, component_refusal}
+use Rattle.pmv.specs.Chroma.{trunc_half, scaled}
+use Rattle.pmv.specs.Predictors.{predictor, stored, zeroed, pair_of, pair_stored, first_copied}
+use Rattle.pmv.specs.Vector.{ported, decoded, part, part_refusal, reconstructed_pair, vector_refusal, components, reconstructed}
+use Rattle.pmv.specs.Update.{decided_refusal, decided_outcome, update_refusal, update_outcome, outcome_number, updated, spatial_temporal_reset}
+use Rattle.pmv.specs.Answers.{delta_answer, delta_number, delta_value, range_answer, range_number, range_value, reconstructed_answer, reconstructed_number, reconstructed_value, vector_answer, vector_number, vector_value, update_number, update_value}
 use Rattle.pmv.specs.declared.component.MotionResidual.TheVariants as Residual
 use Rattle.pmv.specs.declared.component.ComputedDelta.TheVariants as D
 use Rattle.pmv.specs.declared.component.FoundRange.TheVariants as Found
@@ -317,8 +317,8 @@ use Rattle.pmv.specs.declared.kinds.PictureStructure.{PictureStructure}
 use Rattle.pmv.specs.declared.component.MotionResidual.{MotionResidual}
 """ + "".join(f"use Rattle.pmv.specs.declared.kinds.{name}.TheVariants as {name}\n" for name in KINDS if name != "FieldParity")
 PMV_UNFOLDING = (
-    "floorHalf scale is_plain delta fCodeFits codeFits codeRefusal deltaRefusal range_of halves wrapped fromDelta fromDeltaRefusal truncHalf "
-    "scaled decoded reconstructedPair reconstructed decidedRefusal decidedOutcome updated spatialTemporalReset"
+    "floor_half scale is_plain delta f_code_fits code_fits code_refusal delta_refusal range_of halves wrapped from_delta from_delta_refusal trunc_half "
+    "scaled decoded reconstructed_pair reconstructed decided_refusal decided_outcome updated spatial_temporal_reset"
 )
 PMV_HELP = """abbrev eight : ℤ → ℤ → ℤ → ℤ → ℤ → ℤ → ℤ → ℤ → Pmv
 eight a b c d e f g h = record { values = a ∷ b ∷ c ∷ d ∷ e ∷ f ∷ g ∷ h ∷ [] }
@@ -349,16 +349,16 @@ def pmv(repository):
         _, code, there, value, f, answer, d = c
         r = residual(there, value)
         said = f"D.Refused {answer}" if answer else f"D.Delta {z(d)}"
-        call = f"deltaAnswer (deltaRefusal {f} {z(code)} {r}) (deltaOf {f} {z(code)} {r})"
-        m.case(f"{call} ≡ {said}", f"deltaNumber ({said}) ≡ {answer}", f"deltaValue ({said}) ≡ {'none' if answer else 'some ' + z(d)}")
+        call = f"delta_answer (delta_refusal {f} {z(code)} {r}) (delta_of {f} {z(code)} {r})"
+        m.case(f"{call} ≡ {said}", f"delta_number ({said}) ≡ {answer}", f"delta_value ({said}) ≡ {'none' if answer else 'some ' + z(d)}")
     for g, c in selection(kind(2), lambda x: min(x[1][1], 12), 1, 13):
         _, f, answer, low, high, span = c
         value = f"(range {z(low)} {z(high)} {z(span)})"
         said = f"Found.Refused {answer}" if answer else f"Found.Range {value}"
         m.case(
-            f"rangeAnswer (fCodeRefusal {f}) (range_of (scale {f})) ≡ {said}",
-            f"rangeNumber ({said}) ≡ {answer}",
-            f"rangeValue ({said}) ≡ {'none' if answer else 'some ' + value}",
+            f"range_answer (f_code_refusal {f}) (range_of (scale {f})) ≡ {said}",
+            f"range_number ({said}) ≡ {answer}",
+            f"range_value ({said}) ≡ {'none' if answer else 'some ' + value}",
         )
 
     def component(answer, values):
@@ -371,9 +371,9 @@ def pmv(repository):
         words = f"{f} {z(code)} {residual(there, value)} {z(prior)} (halves {kinds})"
         said, option, _ = component(answer, c[10:14])
         m.case(
-            f"reconstructedAnswer (componentRefusal {words}) (componentOf {words}) ≡ {said}",
-            f"reconstructedNumber ({said}) ≡ {answer}",
-            f"reconstructedValue ({said}) ≡ {option}",
+            f"reconstructed_answer (component_refusal {words}) (component_of {words}) ≡ {said}",
+            f"reconstructed_number ({said}) ≡ {answer}",
+            f"reconstructed_value ({said}) ≡ {option}",
         )
     for g, c in selection(kind(4), lambda x: (x[0], tuple(x[1][9:12]), x[1][16]), 1, 60):
         r, s, t = kind_of("VectorIndex", c[9]), kind_of("Direction", c[10]), kind_of("Component", c[11])
@@ -382,7 +382,7 @@ def pmv(repository):
         m.case(
             f"(decoded {words} ported).answer ≡ {said}",
             f"(decoded {words} ported).pmv ≡ {eight(c[21:29])}",
-            f"partRefusal {words} ported ≡ {c[16]}",
+            f"part_refusal {words} ported ≡ {c[16]}",
         )
     vectors = selection(kind(5), lambda x: (x[0], x[1][21], x[1][9], x[1][10], x[1][19], x[1][20] == 2), 1, 100)
     # the vertical component alone is halved: priors that would be accepted halved
@@ -398,9 +398,9 @@ def pmv(repository):
         m.case(
             f"({call}).answer ≡ {said}",
             f"({call}).pmv ≡ {eight(c[30:38])}",
-            f"vectorNumber ({said}) ≡ {c[21]}",
-            f"vectorValue ({said}) ≡ {'none' if c[21] else 'some ' + value}",
-            f"vectorRefusal (pair_of {eight(c[1:9])} {r} {s}) {mv} {words} ported ≡ {c[21]}",
+            f"vector_number ({said}) ≡ {c[21]}",
+            f"vector_value ({said}) ≡ {'none' if c[21] else 'some ' + value}",
+            f"vector_refusal (pair_of {eight(c[1:9])} {r} {s}) {mv} {words} ported ≡ {c[21]}",
         )
     for g, c in selection(kind(6), lambda x: (x[1][3], x[1][1] % 4, x[1][1] < 0, x[1][2] % 4 == x[1][1] % 4), 1, 48):
         chroma = kind_of("ChromaFormat", c[3])
@@ -417,18 +417,18 @@ def pmv(repository):
         m.case(
             f"(updated {eight(c[1:9])} {x}).answer ≡ {said}",
             f"(updated {eight(c[1:9])} {x}).pmv ≡ {eight(c[18:26])}",
-            f"updateRefusal {x} ≡ {c[16]}",
+            f"update_refusal {x} ≡ {c[16]}",
         )
     for n, name in enumerate(OUTCOMES):
         m.case(
-            f"outcomeNumber Outcome.{name} ≡ {n}",
-            f"updateNumber (U.Outcome Outcome.{name}) ≡ 0",
-            f"updateValue (U.Outcome Outcome.{name}) ≡ some Outcome.{name}",
-            f"updateNumber (U.Refused {n + 7}) ≡ {n + 7}",
-            f"updateValue (U.Refused {n + 7}) ≡ none",
+            f"outcome_number Outcome.{name} ≡ {n}",
+            f"update_number (U.Outcome Outcome.{name}) ≡ 0",
+            f"update_value (U.Outcome Outcome.{name}) ≡ some Outcome.{name}",
+            f"update_number (U.Refused {n + 7}) ≡ {n + 7}",
+            f"update_value (U.Refused {n + 7}) ≡ none",
         )
     for g, c in selection([x for x in kind(8) if distinct(x[1])], lambda x: (x[1][9], min(x[1][10], 6)), 1, 40):
-        call = f"spatialTemporalReset {eight(c[1:9])} {kind_of('PictureCodingType', c[9])} {c[10]}"
+        call = f"spatial_temporal_reset {eight(c[1:9])} {kind_of('PictureCodingType', c[9])} {c[10]}"
         m.case(f"({call}).applied ≡ {flag(c[11])}", f"({call}).pmv ≡ {eight(c[12:20])}")
     for g, c in selection([x for x in kind(9) if distinct(x[1])], lambda x: tuple(x[1][9:12]), 1, 8):
         place = " ".join([kind_of("VectorIndex", c[9]), kind_of("Direction", c[10]), kind_of("Component", c[11])])
@@ -442,23 +442,23 @@ def pmv(repository):
 
 
 FRAMES_HEAD = """
-use Rattle.combine_predictions.specs.Refusals.{or_else, unlessRefused}
-use Rattle.forming_predictions.specs.Splitting.{floorHalf, halfFlag}
-use Rattle.forming_predictions.specs.Lines.{fieldLines, clampTo, row_of, sampleAt}
+use Rattle.combine_predictions.specs.Refusals.{or_else, unless_refused}
+use Rattle.forming_predictions.specs.Splitting.{floor_half, half_flag}
+use Rattle.forming_predictions.specs.Lines.{field_lines, clamp_to, row_of, sample_at}
 use Rattle.forming_predictions.specs.Forming.{combined, formed}
 use Rattle.forming_predictions.specs.Means.{rounded}
-use Rattle.forming_predictions.specs.Refusals.{planeFits}
+use Rattle.forming_predictions.specs.Refusals.{plane_fits}
 use Rattle.forming_predictions.specs.declared.FieldParity.TheVariants as FieldParity
 use Rattle.forming_predictions.specs.declared.FieldParity.{FieldParity}
-use Rattle.pmv.specs.Chroma.{truncHalf}
+use Rattle.pmv.specs.Chroma.{trunc_half}
 use Rattle.pmv.specs.declared.kinds.ChromaFormat.TheVariants as ChromaFormat
 use Rattle.pmv.specs.declared.kinds.ChromaFormat.{ChromaFormat}
 use Rattle.inter_reconstruction.specs.Components.{ColourComponent, luma, cb, cr}
-use Rattle.inter_reconstruction.specs.Frames.{Samples, samplesOf, lengthsOf, isPresent, readReference}
-use Rattle.inter_reconstruction.specs.Motion.{remaining, frameWanted, fieldWanted, frameUses, fieldUses}
-use Rattle.inter_reconstruction.specs.Macroblock.{fieldSample, directionSample, usedSample, rectangle, macroblock, predicted}
-use Rattle.inter_reconstruction.specs.Refusals.{sameGeometry, planesFit, predictionRefusal}
-use Rattle.inter_reconstruction.specs.Answers.{predictionNumber, predictionDirections, accepted, predictionAnswer}
+use Rattle.inter_reconstruction.specs.Frames.{Samples, samples_of, lengths_of, is_present, read_reference}
+use Rattle.inter_reconstruction.specs.Motion.{remaining, frame_wanted, field_wanted, frame_uses, field_uses}
+use Rattle.inter_reconstruction.specs.Macroblock.{field_sample, direction_sample, used_sample, rectangle, macroblock, predicted}
+use Rattle.inter_reconstruction.specs.Refusals.{same_geometry, planes_fit, prediction_refusal}
+use Rattle.inter_reconstruction.specs.Answers.{prediction_number, prediction_directions, accepted, prediction_answer}
 use Rattle.inter_reconstruction.specs.declared.motion.UsedDirections.TheVariants as Used
 use Rattle.inter_reconstruction.specs.declared.frames.FrameGeometry.{FrameGeometry}
 use Rattle.inter_reconstruction.specs.declared.frames.FrameBuffer.{FrameBuffer}
@@ -475,8 +475,8 @@ use Rattle.inter_reconstruction.specs.declared.motion.FieldDirection.TheVariants
 use Rattle.inter_reconstruction.specs.declared.motion.FieldDirection.{FieldDirection}
 """
 FRAMES_UNFOLDING = (
-    "tabulate floorHalf halfFlag fieldLines clampTo row_of sampleAt combined formed planeFits truncHalf fieldSample directionSample usedSample "
-    "rectangle macroblock sameGeometry planesFit"
+    "tabulate floor_half half_flag field_lines clamp_to row_of sample_at combined formed plane_fits trunc_half field_sample direction_sample used_sample "
+    "rectangle macroblock same_geometry planes_fit"
 )
 FRAMES_HELP = """abbrev geometry : ℕ → ℕ → ChromaFormat → FrameGeometry
 geometry w h f = record { width = w; height = h; chroma_format = f }
@@ -490,11 +490,11 @@ vector h v = record { horizontal = h; vertical = v }
 abbrev fieldVector : ℤ → ℤ → FieldParity → FieldVector
 fieldVector h v p = record { vector = vector h v; reference_field = p }
 
-abbrev frameDirection : ℤ → ℤ → FrameDirection
-frameDirection h v = FrameDirection.Present (vector h v)
+abbrev frame_direction : ℤ → ℤ → FrameDirection
+frame_direction h v = FrameDirection.Present (vector h v)
 
-abbrev fieldDirection : FieldVector → FieldVector → FieldDirection
-fieldDirection t b = FieldDirection.Present (record { top = t; bottom = b })
+abbrev field_direction : FieldVector → FieldVector → FieldDirection
+field_direction t b = FieldDirection.Present (record { top = t; bottom = b })
 
 abbrev frameMotion : FrameDirection → FrameDirection → FrameMotion
 frameMotion f b = record { forward = f; backward = b }
@@ -563,7 +563,7 @@ def macroblocks(repository):
         if key not in planes:
             planes[key] = f"planes{len(planes)}"
             y, b, r = Macroblocks.samples(p)
-            m.define(f"abbrev {planes[key]} : Samples\n{planes[key]} = samplesOf {lst(y)} {lst(b)} {lst(r)}")
+            m.define(f"abbrev {planes[key]} : Samples\n{planes[key]} = samples_of {lst(y)} {lst(b)} {lst(r)}")
         return planes[key]
 
     def reference(c, p):
@@ -574,11 +574,11 @@ def macroblocks(repository):
 
     def parts(c):
         if c[0] == "2":
-            direction = lambda d: f"(frameDirection {z(d[1])} {z(d[2])})" if int(d[0]) else "FrameDirection.Absent"
-            return f"frameUses (frameMotion {direction(c[14:17])} {direction(c[17:20])})", c[20:]
+            direction = lambda d: f"(frame_direction {z(d[1])} {z(d[2])})" if int(d[0]) else "FrameDirection.Absent"
+            return f"frame_uses (frameMotion {direction(c[14:17])} {direction(c[17:20])})", c[20:]
         vector = lambda v: f"(fieldVector {z(v[0])} {z(v[1])} {kind_of('FieldParity', v[2])})"
-        direction = lambda d: f"(fieldDirection {vector(d[1:4])} {vector(d[4:7])})" if int(d[0]) else "FieldDirection.Absent"
-        return f"fieldUses (fieldMotion {direction(c[14:21])} {direction(c[21:28])})", c[28:]
+        direction = lambda d: f"(field_direction {vector(d[1:4])} {vector(d[4:7])})" if int(d[0]) else "FieldDirection.Absent"
+        return f"field_uses (fieldMotion {direction(c[14:21])} {direction(c[21:28])})", c[28:]
 
     def tail(c):
         return c[20:] if c[0] == "2" else c[28:]
@@ -587,8 +587,8 @@ def macroblocks(repository):
         uses, rest = parts(c)
         dest = f"(geometry {c[1]} {c[2]} {kind_of('ChromaFormat', c[3])})"
         forward, backward = reference(c[4:8], f), reference(c[8:12], b)
-        u = f"({uses} (isPresent {forward}) (isPresent {backward}))"
-        refusal = f"predictionRefusal {dest} {rest[1]} {forward} {fn} {backward} {bn} {u} {c[12]} {c[13]}"
+        u = f"({uses} (is_present {forward}) (is_present {backward}))"
+        refusal = f"prediction_refusal {dest} {rest[1]} {forward} {fn} {backward} {bn} {u} {c[12]} {c[13]}"
         return refusal, dest, forward, backward, u, rest
 
     numbers = lambda p: f"(lengths {p[2]} {p[5]} {p[8]})"
@@ -598,10 +598,10 @@ def macroblocks(repository):
     for group, c, f, b in selection(calls.calls, lambda x: signature(x) if x[0] in "abdemnqrstw" else None, 1, 260):
         refusal, _, _, _, u, rest = call(c, f or no_planes, b or no_planes, numbers(f or no_planes), numbers(b or no_planes))
         answer = int(rest[2])
-        said = f"predictionAnswer ({refusal}) (accepted {u})"
+        said = f"prediction_answer ({refusal}) (accepted {u})"
         used = "none" if answer else f"some {USED[rest[3]]}"
-        wanted = u.replace("Uses (", "Wanted (", 1).replace(" (isPresent", ") (isPresent", 1)
-        m.case(f"predictionNumber ({said}) ≡ {answer}", f"predictionDirections ({said}) ≡ {used}", f"remaining ({wanted[1:-1]} ≡ {u}")
+        wanted = u.replace("Uses (", "Wanted (", 1).replace(" (is_present", ") (is_present", 1)
+        m.case(f"prediction_number ({said}) ≡ {answer}", f"prediction_directions ({said}) ≡ {used}", f"remaining ({wanted[1:-1]} ≡ {u}")
     several = selection([x for x in calls.calls if x[0] == "u"], lambda x: tuple(x[1][1:14]) + tuple(tail(x[1])[1:3]), 1, 150)
     several += selection([x for x in calls.calls if x[0] == "v"], lambda x: 0, len(calls.calls), len(calls.calls))
     for group, c, f, b in several:
@@ -615,13 +615,13 @@ def macroblocks(repository):
     taken += selection([x for x in small if x[0] in "dkp"], lambda x: (x[1][0], directions(x[1]), halves(x[1])), 1, 20)
     for n, (group, c, f, b) in enumerate(taken):
         fp, bp = named(f), named(b)
-        refusal, dest, forward, backward, u, rest = call(c, f, b, f"(lengthsOf {fp})", f"(lengthsOf {bp})")
+        refusal, dest, forward, backward, u, rest = call(c, f, b, f"(lengths_of {fp})", f"(lengths_of {bp})")
         after = hexed(rest[4])
         if not after:
             continue
-        value = f"predicted rounded {dest}.chroma_format (readReference {forward} {fp}) (readReference {backward} {bp}) {u} {c[12]} {c[13]}"
-        number = f"predictionNumber (predictionAnswer ({refusal}) (accepted {u}))"
-        m.define(f"abbrev block{n} : List ℕ\nblock{n} = unlessRefused ({number}) ({value}) (filled {rest[0]} {rest[1]})")
+        value = f"predicted rounded {dest}.chroma_format (read_reference {forward} {fp}) (read_reference {backward} {bp}) {u} {c[12]} {c[13]}"
+        number = f"prediction_number (prediction_answer ({refusal}) (accepted {u}))"
+        m.define(f"abbrev block{n} : List ℕ\nblock{n} = unless_refused ({number}) ({value}) (filled {rest[0]} {rest[1]})")
         chroma = (len(after) - 256) // 2
         spots = [0, 17 + n % 7, 256 + n % chroma, 256 + chroma - 1, 256 + chroma + (11 * n) % chroma, len(after) - 1, (37 * n) % 256]
         m.case(*[f"get_or block{n} {k} 0 ≡ {after[k]}" for k in sorted(set(spots))], f"length block{n} ≡ {len(after)}")
@@ -634,24 +634,24 @@ def macroblocks(repository):
 def placings(repository):
     m = Module(
         """
-use Rattle.forming_predictions.specs.Refusals.{planeFits}
+use Rattle.forming_predictions.specs.Refusals.{plane_fits}
 use Rattle.pmv.specs.declared.kinds.ChromaFormat.TheVariants as ChromaFormat
 use Rattle.pmv.specs.declared.kinds.ChromaFormat.{ChromaFormat}
 use Rattle.inter_reconstruction.specs.Components.{ColourComponent, luma, cb, cr}
-use Rattle.inter_reconstruction.specs.Frames.{Samples, samplesOf}
-use Rattle.inter_reconstruction.specs.Refusals.{planesFit}
-use Rattle.inter_reconstruction.specs.Placing.{stored, placed, pictureFits, wellFormed, placingRefusal, placingNumber, placingAnswer}
+use Rattle.inter_reconstruction.specs.Frames.{Samples, samples_of}
+use Rattle.inter_reconstruction.specs.Refusals.{planes_fit}
+use Rattle.inter_reconstruction.specs.Placing.{stored, placed, picture_fits, well_formed, placing_refusal, placing_number, placing_answer}
 use Rattle.inter_reconstruction.specs.declared.frames.FrameGeometry.{FrameGeometry}
 use Rattle.inter_reconstruction.specs.declared.frames.FrameBuffer.{FrameBuffer}
 use Rattle.inter_reconstruction.specs.declared.placing.MacroblockPlacement.TheVariants.{Done, Refused}
 """,
-        "tabulate stored planeFits planesFit pictureFits wellFormed",
+        "tabulate stored plane_fits planes_fit picture_fits well_formed",
     )
     m.define(FRAMES_HELP.split("\n\n")[0])
     m.define(FRAMES_HELP.split("\n\n")[1])
     m.define(FRAMES_HELP.split("\n\n")[-1])
     m.define("abbrev bytes : ℕ → List ℕ\nbytes n = tabulate n (λ (k : ℕ). 1000 + k)")
-    m.define("abbrev grey : ℕ → ℕ → ℕ → Samples\ngrey a b c = samplesOf (replicate a 7) (replicate b 7) (replicate c 7)")
+    m.define("abbrev grey : ℕ → ℕ → ℕ → Samples\ngrey a b c = samples_of (replicate a 7) (replicate b 7) (replicate c 7)")
 
     def picture(c):
         return f"(buffer (geometry {c.w} {c.h} {kind_of('ChromaFormat', c.format)}) {' '.join(map(str, c.sides))})"
@@ -664,8 +664,8 @@ use Rattle.inter_reconstruction.specs.declared.placing.MacroblockPlacement.TheVa
         said = f"Refused {c.number}" if c.number else "Done"
         counts = " ".join(map(str, c.counts))
         m.case(
-            f"placingAnswer (placingRefusal {picture(c)} (lengths {counts}) {c.bytes} {c.col} {c.row}) ≡ {said}",
-            f"placingNumber ({said}) ≡ {c.number}",
+            f"placing_answer (placing_refusal {picture(c)} (lengths {counts}) {c.bytes} {c.col} {c.row}) ≡ {said}",
+            f"placing_number ({said}) ≡ {c.number}",
         )
     return m
 
@@ -692,20 +692,20 @@ def predictor_bytes(values):
 
 def entries(repository):
     head = PMV_HEAD + """
-use Rattle.combine_predictions.specs.Refusals.{or_else, unlessRefused}
+use Rattle.combine_predictions.specs.Refusals.{or_else, unless_refused}
 use Rattle.forming_predictions.specs.declared.FieldParity.TheVariants as FieldParity
 use Rattle.pmv.specs.declared.predictors.PredictorPair.{PredictorPair}
 use Rattle.pmv.specs.Kinds as Kinds
-use Rattle.entry_points.specs.Layout.{signed_of, word_of, bytes_of, number_at, predictorsOf, numbersBytes, predictorBytes, pairBytes, withPair}
-use Rattle.entry_points.specs.Entries.{unknownRefusal, is_yes, vectorKnown, updateKnown, residualOf, type_of, indexOf, directionOf, format_of, structureOf, motionVectorOf, vectorFrom, vectorBytes, context_of, frameKnown, fieldKnown, referenceKnown, fieldsKnown, geometryOf, referenceOf, frameDirectionOf, fieldVectorOf, fieldDirectionOf, frameMotionOf, fieldMotionOf}
+use Rattle.entry_points.specs.Layout.{signed_of, word_of, bytes_of, number_at, predictors_of, numbers_bytes, predictor_bytes, pair_bytes, with_pair}
+use Rattle.entry_points.specs.Entries.{unknown_refusal, is_yes, vector_known, update_known, residual_of, type_of, index_of, direction_of, format_of, structure_of, motion_vector_of, vector_from, vector_bytes, context_of, frame_known, field_known, reference_known, fields_known, geometry_of, reference_of, frame_direction_of, field_vector_of, field_direction_of, frame_motion_of, field_motion_of}
 use Rattle.inter_reconstruction.specs.declared.frames.ReferenceFrame.TheVariants as Reference
 use Rattle.inter_reconstruction.specs.declared.motion.FrameDirection.TheVariants as Frame
 use Rattle.inter_reconstruction.specs.declared.motion.FieldDirection.TheVariants as Field
 """ + "".join(f"use Rattle.pmv.specs.declared.kinds.Option{n}.TheVariants as Option{n}\n" for n in ["Flag", *HEADER] if n != "Component")
     m = Module(
         head,
-        PMV_UNFOLDING + " bytes_of number_at predictorsOf numbersBytes withPair vectorKnown updateKnown residualOf type_of frameKnown fieldKnown "
-        "referenceKnown fieldsKnown geometryOf referenceOf frameDirectionOf fieldVectorOf fieldDirectionOf",
+        PMV_UNFOLDING + " bytes_of number_at predictors_of numbers_bytes with_pair vector_known update_known residual_of type_of frame_known field_known "
+        "reference_known fields_known geometry_of reference_of frame_direction_of field_vector_of field_direction_of",
     )
     # kinds, by the header's numbers
     numbers = header_numbers(repository)
@@ -725,17 +725,17 @@ use Rattle.inter_reconstruction.specs.declared.motion.FieldDirection.TheVariants
     for n, value in ((numbers["flag"]["NO"], "false"), (numbers["flag"]["YES"], "true")):
         some = f"(OptionFlag.Some {value})"
         m.case(
-            f"Kinds.flagFrom {n} ≡ {some}",
-            f"Kinds.flagKnown {some} ≡ true",
-            f"Kinds.flagOr {some} ≡ {value}",
+            f"Kinds.flag_from {n} ≡ {some}",
+            f"Kinds.flag_known {some} ≡ true",
+            f"Kinds.flag_or {some} ≡ {value}",
             f"is_yes {n} ≡ {value}",
         )
     for n in (2, 3, 256, 257):
-        m.case(f"Kinds.flagFrom {n} ≡ OptionFlag.None", "Kinds.flagKnown OptionFlag.None ≡ false")
+        m.case(f"Kinds.flag_from {n} ≡ OptionFlag.None", "Kinds.flag_known OptionFlag.None ≡ false")
     for n, value in enumerate(KINDS["PictureCodingType"][0]):
         m.case(
-            f"Kinds.codingNumber PictureCodingType.{value} ≡ {n}",
-            f"Kinds.isInterPicture PictureCodingType.{value} ≡ {flag(value in ('Predictive', 'Bidirectional'))}",
+            f"Kinds.coding_number PictureCodingType.{value} ≡ {n}",
+            f"Kinds.is_inter_picture PictureCodingType.{value} ≡ {flag(value in ('Predictive', 'Bidirectional'))}",
         )
     # numbers in bytes
     for v in (0, 1, -1, 127, 128, 255, 256, -256, 65535, 65536, 16777216, 2**31 - 1, -(2**31), -(2**31) + 1, 305419896, -305419896):
@@ -753,82 +753,82 @@ use Rattle.inter_reconstruction.specs.declared.motion.FieldDirection.TheVariants
     shape = lambda x: tuple(x[1][k] for k in (21, 9, 10, 19, 20, 12, 15))
     for g, c in selection([x for x in kind(5) if x[0] in "lmo"], shape, 1, 60):
         l, after = lst(predictor_bytes(c[1:9])), lst(predictor_bytes(c[30:38]))
-        mv = f"(motionVectorOf {z(c[11])} {c[12]} {c[13]} {z(c[14])} {c[15]} {c[16]})"
-        got = f"vectorFrom {l} (indexOf {c[9]}) (directionOf {c[10]}) {mv} {c[17]} {c[18]} (format_of {c[19]}) (structureOf {c[20]})"
-        known = f"vectorKnown {c[9]} {c[10]} {c[12]} {c[15]} {c[19]} {c[20]} 32 8"
+        mv = f"(motion_vector_of {z(c[11])} {c[12]} {c[13]} {z(c[14])} {c[15]} {c[16]})"
+        got = f"vector_from {l} (index_of {c[9]}) (direction_of {c[10]}) {mv} {c[17]} {c[18]} (format_of {c[19]}) (structure_of {c[20]})"
+        known = f"vector_known {c[9]} {c[10]} {c[12]} {c[15]} {c[19]} {c[20]} 32 8"
         vector = lst(word(c[22]) + word(c[26]) if not c[21] else old)
         m.case(
-            f"or_else (unknownRefusal ({known})) (vectorNumber ({got}).answer) ≡ {c[21]}",
-            f"withPair {l} (indexOf {c[9]}) (directionOf {c[10]}) ({got}).predictors ≡ {after}",
-            f"vectorBytes ({got}).answer {lst(old)} ≡ {vector}",
+            f"or_else (unknown_refusal ({known})) (vector_number ({got}).answer) ≡ {c[21]}",
+            f"with_pair {l} (index_of {c[9]}) (direction_of {c[10]}) ({got}).predictors ≡ {after}",
+            f"vector_bytes ({got}).answer {lst(old)} ≡ {vector}",
         )
     distinct = lambda c: len(set(c[1:9])) == 8 and 0 not in c[1:9]
     for g, c in selection([x for x in kind(7) if distinct(x[1])], lambda x: (x[1][9], x[1][10], x[1][11], x[1][16], x[1][17]), 1, 60):
         l = lst(predictor_bytes(c[1:9]))
         words = " ".join(str(v) for v in c[9:16])
         m.case(
-            f"or_else (unknownRefusal (updateKnown {words} 32 1)) (updateRefusal (context_of {words})) ≡ {c[16]}",
-            f"predictorBytes (updated (predictorsOf {l}) (context_of {words})).pmv ≡ {lst(predictor_bytes(c[18:26]))}",
+            f"or_else (unknown_refusal (update_known {words} 32 1)) (update_refusal (context_of {words})) ≡ {c[16]}",
+            f"predictor_bytes (updated (predictors_of {l}) (context_of {words})).pmv ≡ {lst(predictor_bytes(c[18:26]))}",
         )
     # one number without a meaning, or a length, at a time: 38; what stands beside an absence is not read
     def unknowns(name, right, wrong, free=()):
-        m.case(f"unknownRefusal ({name} {' '.join(map(str, right))}) ≡ 0")
+        m.case(f"unknown_refusal ({name} {' '.join(map(str, right))}) ≡ 0")
         for k, values in wrong.items():
             for v in values:
                 other = list(right)
                 other[k] = v
-                m.case(f"unknownRefusal ({name} {' '.join(map(str, other))}) ≡ 38")
+                m.case(f"unknown_refusal ({name} {' '.join(map(str, other))}) ≡ 38")
         for k, v in free:
             other = list(right)
             other[k] = v
-            m.case(f"unknownRefusal ({name} {' '.join(map(str, other))}) ≡ 0")
+            m.case(f"unknown_refusal ({name} {' '.join(map(str, other))}) ≡ 0")
 
     two, three, four = (2, 7), (3, 7), (4, 7)
     unknowns(
-        "vectorKnown",
+        "vector_known",
         [1, 1, 1, 1, 1, 2, 32, 8],
         {0: two, 1: two, 2: two, 3: two, 4: two, 5: three, 6: (31, 33, 0), 7: (7, 9, 0)},
         [(0, 0), (5, 0), (5, 1)],
     )
     unknowns(
-        "updateKnown",
+        "update_known",
         [2, 1, 3, 1, 1, 1, 1, 32, 1],
         {0: three, 1: two, 2: four, 3: two, 4: two, 5: two, 6: two, 7: (31, 33), 8: (0, 2)},
         [(2, 0), (6, 0)],
     )
-    unknowns("updateKnown", [2, 0, 9, 0, 0, 0, 0, 32, 1], {1: two}, [(2, 4)])
-    unknowns("frameKnown", [2, 1, 2, 1, 2, 1, 1], {0: three, 1: two, 2: three, 3: two, 4: three, 5: two, 6: two}, [(0, 0), (5, 0)])
-    unknowns("frameKnown", [2, 0, 9, 0, 9, 0, 0], {1: two, 3: two}, [(2, 1), (4, 1)])
+    unknowns("update_known", [2, 0, 9, 0, 0, 0, 0, 32, 1], {1: two}, [(2, 4)])
+    unknowns("frame_known", [2, 1, 2, 1, 2, 1, 1], {0: three, 1: two, 2: three, 3: two, 4: three, 5: two, 6: two}, [(0, 0), (5, 0)])
+    unknowns("frame_known", [2, 0, 9, 0, 9, 0, 0], {1: two, 3: two}, [(2, 1), (4, 1)])
     unknowns(
-        "fieldKnown",
+        "field_known",
         [2, 1, 2, 1, 2, 1, 1, 1, 1, 1, 1],
         {0: three, 1: two, 2: three, 3: two, 4: three, 5: two, 6: two, 7: two, 8: two, 9: two, 10: two},
         [(6, 0), (10, 0)],
     )
-    unknowns("fieldKnown", [2, 0, 9, 0, 9, 0, 9, 9, 0, 9, 9], {5: two, 8: two}, [(6, 1), (9, 0)])
+    unknowns("field_known", [2, 0, 9, 0, 9, 0, 9, 9, 0, 9, 9], {5: two, 8: two}, [(6, 1), (9, 0)])
     # what the numbers of the prediction calls are put together to; every number is another
     g = "record { width = 11; height = 12; chroma_format = ChromaFormat.Yuv422 }"
     plane = lambda a, b: f"record {{ width = {a}; height = {b} }}"
     there = f"Reference.Present (record {{ geometry = {g}; y = {plane(13, 14)}; cb = {plane(15, 16)}; cr = {plane(17, 18)} }})"
     m.case(
-        f"geometryOf 11 12 1 ≡ {g}",
-        f"referenceOf 1 11 12 1 13 14 15 16 17 18 ≡ {there}",
-        "referenceOf 0 11 12 1 13 14 15 16 17 18 ≡ Reference.Absent",
+        f"geometry_of 11 12 1 ≡ {g}",
+        f"reference_of 1 11 12 1 13 14 15 16 17 18 ≡ {there}",
+        "reference_of 0 11 12 1 13 14 15 16 17 18 ≡ Reference.Absent",
     )
     v = lambda h, w: f"record {{ horizontal = {z(h)}; vertical = {z(w)} }}"
     u = lambda h, w, p: f"record {{ vector = {v(h, w)}; reference_field = FieldParity.{p} }}"
-    m.case(f"frameDirectionOf 1 {z(3)} {z(-4)} ≡ Frame.Present ({v(3, -4)})", f"frameDirectionOf 0 {z(3)} {z(-4)} ≡ Frame.Absent")
+    m.case(f"frame_direction_of 1 {z(3)} {z(-4)} ≡ Frame.Present ({v(3, -4)})", f"frame_direction_of 0 {z(3)} {z(-4)} ≡ Frame.Absent")
     m.case(
-        f"(frameMotionOf 1 {z(3)} {z(-4)} 1 {z(5)} {z(6)}).forward ≡ Frame.Present ({v(3, -4)})",
-        f"(frameMotionOf 1 {z(3)} {z(-4)} 1 {z(5)} {z(6)}).backward ≡ Frame.Present ({v(5, 6)})",
+        f"(frame_motion_of 1 {z(3)} {z(-4)} 1 {z(5)} {z(6)}).forward ≡ Frame.Present ({v(3, -4)})",
+        f"(frame_motion_of 1 {z(3)} {z(-4)} 1 {z(5)} {z(6)}).backward ≡ Frame.Present ({v(5, 6)})",
     )
     m.case(
-        f"(frameMotionOf 0 {z(3)} {z(-4)} 1 {z(5)} {z(6)}).forward ≡ Frame.Absent",
-        f"(frameMotionOf 1 {z(3)} {z(-4)} 0 {z(5)} {z(6)}).backward ≡ Frame.Absent",
+        f"(frame_motion_of 0 {z(3)} {z(-4)} 1 {z(5)} {z(6)}).forward ≡ Frame.Absent",
+        f"(frame_motion_of 1 {z(3)} {z(-4)} 0 {z(5)} {z(6)}).backward ≡ Frame.Absent",
     )
     pair = lambda a, b: f"Field.Present (record {{ top = {a}; bottom = {b} }})"
     for flags in ((1, 1), (0, 1), (1, 0)):
-        call = f"fieldMotionOf {flags[0]} 1 {z(3)} {z(-4)} 0 {z(5)} {z(6)} {flags[1]} 0 {z(7)} {z(8)} 1 {z(-9)} {z(10)}"
+        call = f"field_motion_of {flags[0]} 1 {z(3)} {z(-4)} 0 {z(5)} {z(6)} {flags[1]} 0 {z(7)} {z(8)} 1 {z(-9)} {z(10)}"
         forward = pair(u(3, -4, "Bottom"), u(5, 6, "Top")) if flags[0] else "Field.Absent"
         backward = pair(u(7, 8, "Top"), u(-9, 10, "Bottom")) if flags[1] else "Field.Absent"
         m.case(f"({call}).forward ≡ {forward}", f"({call}).backward ≡ {backward}")
@@ -854,8 +854,8 @@ use Prim.Native.Nat.{ℕ, ◌<◌}
 use native.Mathlib.Omega.{arith}
 use lib.ListN.{length, get_or}
 use Rattle.inter_reconstruction.specs.Components.{luma, cb}
-use Rattle.drift.specs.Steps.{Pictures, afterSteps}
-use Rattle.drift.specs.Unrounded.{afterUnroundedSteps, inUnits}
+use Rattle.drift.specs.Steps.{Pictures, after_steps}
+use Rattle.drift.specs.Unrounded.{after_unrounded_steps, in_units}
 use Rattle.drift.specs.Drift.{Fitting, Lower, Near, DriftWithin}
 use Rattle.worked_runs.specs.Steps.{wide}
 """
@@ -872,7 +872,7 @@ lower-of n j h = h
 pub within-is : DriftWithin 2 9 5
     → (p : Pictures)
     → Fitting wide 3 p
-    → Near 2 9 5 (get_or (afterSteps wide [] p 2 cb) 7 0) (get_or (afterUnroundedSteps wide [] (inUnits p) 2 cb) 7 0)
+    → Near 2 9 5 (get_or (after_steps wide [] p 2 cb) 7 0) (get_or (after_unrounded_steps wide [] (in_units p) 2 cb) 7 0)
 within-is h p f = h wide 3 p f [] tt (omega arith) cb 7
 """
 
@@ -894,19 +894,19 @@ def worked(repository):
         table = edited(
             f.read(),
             (r"use native\.Mathlib\.Omega[^\n]*\n", ""),
-            (r"use [^\n]*clamp-lt[^\n]*\n", ""),
+            (r"use [^\n]*clamp_lt[^\n]*\n", ""),
             (r"-- a side of 1 has one place\n.*?\n\n", ""),
             (r"λ x y\. rw \(only x\)", "refl"),
         )
     with open(os.path.join(folder, "specs", "Cases.antt")) as f:
-        cases = edited(f.read(), (r"\(\(x y : ℤ\) → (sampleAt \(field Bottom\)[^\n]*?) x y ≡ sample\)", r"(\1 (negsuc 1) (pos 3) ≡ sample)"))
+        cases = edited(f.read(), (r"\(\(x y : ℤ\) → (sample_at \(field Bottom\)[^\n]*?) x y ≡ sample\)", r"(\1 (negsuc 1) (pos 3) ≡ sample)"))
     with open(os.path.join(runs_folder, "proofs", "Runs.antt")) as f:
         runs = edited(
             f.read(),
             # pictures 1 and 2 alone: what is computed grows with the picture's number
             (r"\(1 ∷ 2 ∷ 3 ∷ 4 ∷ \[\]\)", "(1 ∷ 2 ∷ [])"),
             (r"\(refl, \(refl, \(refl, \(refl, tt\)\)\)\)", "(refl, (refl, tt))"),
-            (r"use [^\n]*length-tab[^\n]*\n", ""),
+            (r"use [^\n]*length_tab[^\n]*\n", ""),
             (r"use Rattle\.drift\.proofs\.Runs[^\n]*\n", ""),
             (r"Drift\.\{Fitting, InRange, Near\}", "Drift.{Fitting, InRange, Near, Lower, DriftFigure}"),
             (r"pub fits : .*?\n\n", FITS),
@@ -915,14 +915,14 @@ def worked(repository):
                 r"pub instance : DriftFigure → \1\ninstance drift = drift \2 (fits 2)",
             ),
         )
-    few = edited(runs, (r"pub meets-above : .*?\n\n", ""), (r"pub meets-below : .*?\n\n", ""))
+    few = edited(runs, (r"pub meets_above : .*?\n\n", ""), (r"pub meets_below : .*?\n\n", ""))
     with open(os.path.join(runs_folder, "proofs", "Steps.antt")) as f:
         steps = CLAIM_USES + f.read() + CLAIMS
     with open(os.path.join(runs_folder, "specs", "Steps.antt")) as f:
         rows = f.read()
     # the means of two directions alone, and of those by fields Cb: what these leave depends on nearly all of a step
-    few_steps = edited(steps, (r"pub refuse : .*?\n\n", ""), (r"pub steps-hold : .*?\n\n", ""))
-    for name, proof, wanted in (("copies", "copied", r" still still ∷ \[\]\)"), ("byFields", "by-fields", r" crossing bottoms ∷ \[\]\) 2 cb ")):
+    few_steps = edited(steps, (r"pub refuse : .*?\n\n", ""), (r"pub steps_hold : .*?\n\n", ""))
+    for name, proof, wanted in (("copies", "copied", r" still still ∷ \[\]\)"), ("by_fields", "by_fields_lem", r" crossing bottoms ∷ \[\]\) 2 cb ")):
         kept = [line.strip().removeprefix("∷ ") for line in rows.split("\n") if re.match(rf" +∷ left .*{wanted}", line)]
         rows = edited(rows, (rf"(\n{name} =\n).*?\n\n", lambda m: m[1] + "    " + " ∷ ".join(kept + ["[]"]) + "\n\n"))
         few_steps = edited(few_steps, (rf"(\n{proof} =).*?\n\n", lambda m: m[1] + " (refl, refl) ◂" * len(kept) + " tt\n\n"))

@@ -5,9 +5,9 @@ use Rattle.forming_predictions.specs.declared.FieldParity.{FieldParity}
 use Rattle.forming_predictions.specs.declared.FieldParity.TheVariants.{Top, Bottom}
 
 -- 0 is the top field, and else the bottom field
-abbrev pub parityOf : ℕ → FieldParity
-parityOf zero = Top
-parityOf (suc n) = Bottom
+abbrev pub parity_of : ℕ → FieldParity
+parity_of zero = Top
+parity_of (suc n) = Bottom
 
 -- 0 is the top field, 1 the bottom field, and any other number the frame
 abbrev pub lines_of : ℕ → Lines

@@ -3,18 +3,18 @@
 #![tactic(auto)]
 
 ghost use Rattle.std.specs.Prelude.{◌≡◌, length};
-ghost use Rattle.combine_predictions.specs.Refusals.{unlessRefused};
-ghost use Rattle.forming_predictions.specs.Lines.{sampleAt};
+ghost use Rattle.combine_predictions.specs.Refusals.{unless_refused};
+ghost use Rattle.forming_predictions.specs.Lines.{sample_at};
 ghost use Rattle.forming_predictions.specs.Means.{rounded};
-ghost use Rattle.forming_predictions.specs.Forming.{predictedBlock};
-ghost use Rattle.forming_predictions.specs.Refusals.{blockRefusal};
-ghost use Rattle.forming_predictions.specs.BlockAnswers.{blockNumber};
-ghost use Rattle.bench_blocks.specs.Sources.{parityOf, lines_of};
+ghost use Rattle.forming_predictions.specs.Forming.{predicted_block};
+ghost use Rattle.forming_predictions.specs.Refusals.{block_refusal};
+ghost use Rattle.forming_predictions.specs.BlockAnswers.{block_number};
+ghost use Rattle.bench_blocks.specs.Sources.{parity_of, lines_of};
 
 use forming_predictions::{BlockSize, FieldParity, FieldReference, Predicted, ReferencePlane};
 
 fn number_of(answer: Predicted) -> u32
-    ensures { result ≡ blockNumber answer }
+    ensures { result ≡ block_number answer }
 {
     match answer {
         Predicted::Done => 0,
@@ -23,7 +23,7 @@ fn number_of(answer: Predicted) -> u32
 }
 
 fn parity_of(from: u32) -> FieldParity
-    ensures { result ≡ parityOf from }
+    ensures { result ≡ parity_of from }
 {
     if from == 0 {
         return FieldParity::Top;
@@ -46,8 +46,8 @@ pub extern "C" fn fozdrik_bench_block(
     vertical: i32,
     out: &mut [u8],
 ) -> u32
-    ensures number { result ≡ blockRefusal width height (length samples.now) x y block_width block_height (length out.old) }
-    ensures buffer { out.new ≡ unlessRefused result (predictedBlock rounded (sampleAt (lines_of from) width height samples.now) block_width block_height x y horizontal vertical) out.old }
+    ensures number { result ≡ block_refusal width height (length samples.now) x y block_width block_height (length out.old) }
+    ensures buffer { out.new ≡ unless_refused result (predicted_block rounded (sample_at (lines_of from) width height samples.now) block_width block_height x y horizontal vertical) out.old }
 {
     let plane = ReferencePlane {
         width: width,

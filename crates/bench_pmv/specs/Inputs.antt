@@ -1,6 +1,6 @@
 -- Inputs and answers as numbers. For the benchmark alone: nothing here is from the standard or from docs/SCOPE.md.
 use Rattle.std.specs.Prelude.{Bool, not, cond, List, [], ◌∷◌, ℕ, ◌+◌, eqb, ltb, ℤ}
-use Rattle.pmv.specs.Update.{outcomeNumber}
+use Rattle.pmv.specs.Update.{outcome_number}
 use Rattle.pmv.specs.declared.kinds.PictureStructure.{PictureStructure}
 use Rattle.pmv.specs.declared.kinds.PredictionType.TheVariants.{FieldBased, FrameBased, SixteenByEight, DualPrime}
 use Rattle.pmv.specs.declared.kinds.MotionType.{MotionType}
@@ -17,8 +17,8 @@ use Rattle.pmv.specs.declared.vector.MotionVector.{MotionVector}
 use Rattle.pmv.specs.declared.vector.ReconstructedVector.{ReconstructedVector}
 use Rattle.pmv.specs.declared.vector.ReconstructedVector.TheVariants as Vec
 
-abbrev pub structureOf : ℕ → PictureStructure
-structureOf n = cond (eqb n 0) PictureStructure.TopField (cond (eqb n 1) PictureStructure.BottomField PictureStructure.Frame)
+abbrev pub structure_of : ℕ → PictureStructure
+structure_of n = cond (eqb n 0) PictureStructure.TopField (cond (eqb n 1) PictureStructure.BottomField PictureStructure.Frame)
 
 abbrev pub type_of : ℕ → MotionType
 type_of n =
@@ -29,15 +29,15 @@ type_of n =
 abbrev pub format_of : ℕ → MvFormat
 format_of n = cond (eqb n 0) MvFormat.Field MvFormat.Frame
 
-abbrev pub indexOf : ℕ → VectorIndex
-indexOf n = cond (eqb n 0) First Second
+abbrev pub index_of : ℕ → VectorIndex
+index_of n = cond (eqb n 0) First Second
 
-abbrev pub directionOf : ℕ → Direction
-directionOf n = cond (eqb n 0) Forward Backward
+abbrev pub direction_of : ℕ → Direction
+direction_of n = cond (eqb n 0) Forward Backward
 
 -- a byte, and else none
-abbrev pub residualOf : ℕ → MotionResidual
-residualOf n = cond (ltb n 256) (MotionResidual.Present n) MotionResidual.Absent
+abbrev pub residual_of : ℕ → MotionResidual
+residual_of n = cond (ltb n 256) (MotionResidual.Present n) MotionResidual.Absent
 
 abbrev pub is_set : ℕ → Bool
 is_set n = not (eqb n 0)
@@ -45,7 +45,7 @@ is_set n = not (eqb n 0)
 abbrev pub context_of : ℕ → ℕ → ℕ → ℕ → ℕ → ℕ → PmvUpdateContext
 context_of structure type forward backward intra concealment =
     record {
-      picture_structure = structureOf structure;
+      picture_structure = structure_of structure;
       prediction_type = type_of type;
       macroblock_motion_forward = is_set forward;
       macroblock_motion_backward = is_set backward;
@@ -53,28 +53,28 @@ context_of structure type forward backward intra concealment =
       concealment_motion_vectors = is_set concealment;
     }
 
-abbrev pub vectorOf : ℤ → ℕ → ℤ → ℕ → MotionVector
-vectorOf h hr v vr =
+abbrev pub vector_of : ℤ → ℕ → ℤ → ℕ → MotionVector
+vector_of h hr v vr =
     record {
       motion_code_horiz = h;
-      motion_residual_horiz = residualOf hr;
+      motion_residual_horiz = residual_of hr;
       motion_code_vert = v;
-      motion_residual_vert = residualOf vr;
+      motion_residual_vert = residual_of vr;
     }
 
-abbrev pub pmvOf : List ℤ → Pmv
-pmvOf l = record { values = l }
+abbrev pub pmv_of : List ℤ → Pmv
+pmv_of l = record { values = l }
 
 -- the outcome's number, or 16 and the refusal's
-abbrev pub updateCode : Updated → ℕ
-updateCode (Updated.Outcome o) = outcomeNumber o
-updateCode (Updated.Refused n) = 16 + n
+abbrev pub update_code : Updated → ℕ
+update_code (Updated.Outcome o) = outcome_number o
+update_code (Updated.Refused n) = 16 + n
 
-abbrev pub vectorCode : ReconstructedVector → ℕ
-vectorCode (Vec.Components c) = 0
-vectorCode (Vec.Refused n) = n
+abbrev pub vector_code : ReconstructedVector → ℕ
+vector_code (Vec.Components c) = 0
+vector_code (Vec.Refused n) = n
 
 -- both components of an accepted vector, and else what was there
-abbrev pub componentsOr : List ℤ → ReconstructedVector → List ℤ
-componentsOr l (Vec.Components c) = c.horizontal.vector_prime ∷ c.vertical.vector_prime ∷ []
-componentsOr l (Vec.Refused n) = l
+abbrev pub components_or : List ℤ → ReconstructedVector → List ℤ
+components_or l (Vec.Components c) = c.horizontal.vector_prime ∷ c.vertical.vector_prime ∷ []
+components_or l (Vec.Refused n) = l

@@ -4,7 +4,7 @@
 ghost use Rattle.std.specs.Prelude.{◌≡◌};
 ghost use Rattle.pmv.specs.Update.{updated};
 ghost use Rattle.pmv.specs.Vector.{ported, reconstructed};
-ghost use Rattle.bench_pmv.specs.Inputs.{structureOf, type_of, format_of, indexOf, directionOf, residualOf, context_of, vectorOf, pmvOf, updateCode, vectorCode, componentsOr};
+ghost use Rattle.bench_pmv.specs.Inputs.{structure_of, type_of, format_of, index_of, direction_of, residual_of, context_of, vector_of, pmv_of, update_code, vector_code, components_or};
 
 use pmv::component::MotionResidual;
 use pmv::kinds::{
@@ -15,7 +15,7 @@ use pmv::update::{PmvUpdateContext, Updated};
 use pmv::vector::{MotionVector, ReconstructedVector};
 
 fn structure_of(n: u32) -> PictureStructure
-    ensures { result ≡ structureOf n }
+    ensures { result ≡ structure_of n }
 {
     if n == 0 {
         return PictureStructure::TopField;
@@ -54,7 +54,7 @@ fn format_of(n: u32) -> MvFormat
 }
 
 fn index_of(n: u32) -> VectorIndex
-    ensures { result ≡ indexOf n }
+    ensures { result ≡ index_of n }
 {
     if n == 0 {
         return VectorIndex::First;
@@ -63,7 +63,7 @@ fn index_of(n: u32) -> VectorIndex
 }
 
 fn direction_of(n: u32) -> Direction
-    ensures { result ≡ directionOf n }
+    ensures { result ≡ direction_of n }
 {
     if n == 0 {
         return Direction::Forward;
@@ -72,7 +72,7 @@ fn direction_of(n: u32) -> Direction
 }
 
 fn residual_of(n: u32) -> MotionResidual
-    ensures { result ≡ residualOf n }
+    ensures { result ≡ residual_of n }
 {
     if n < 256 {
         return MotionResidual::Present(n as u8);
@@ -82,7 +82,7 @@ fn residual_of(n: u32) -> MotionResidual
 
 /// The outcome's number, or 16 and the refusal's.
 fn update_code(answer: Updated) -> u32
-    ensures { result ≡ updateCode answer }
+    ensures { result ≡ update_code answer }
 {
     match answer {
         Updated::Outcome(outcome) => outcome.number() as u32,
@@ -91,7 +91,7 @@ fn update_code(answer: Updated) -> u32
 }
 
 fn vector_code(answer: ReconstructedVector) -> u32
-    ensures { result ≡ vectorCode answer }
+    ensures { result ≡ vector_code answer }
 {
     match answer {
         ReconstructedVector::Components(_) => 0,
@@ -101,7 +101,7 @@ fn vector_code(answer: ReconstructedVector) -> u32
 
 /// Both components, where there are any.
 fn write_vector(answer: ReconstructedVector, vector: &mut [i32; 2])
-    ensures { vector.new ≡ componentsOr vector.old answer }
+    ensures { vector.new ≡ components_or vector.old answer }
 {
     match answer {
         ReconstructedVector::Components(c) => {
@@ -125,8 +125,8 @@ pub extern "C" fn fozdrik_bench_update(
     concealment: u32,
     predictors: &mut [i32; 8],
 ) -> u32
-    ensures code { result ≡ updateCode (updated (pmvOf predictors.old) (context_of structure prediction_type forward backward intra concealment)).answer }
-    ensures buffer { predictors.new ≡ (updated (pmvOf predictors.old) (context_of structure prediction_type forward backward intra concealment)).pmv.values }
+    ensures code { result ≡ update_code (updated (pmv_of predictors.old) (context_of structure prediction_type forward backward intra concealment)).answer }
+    ensures buffer { predictors.new ≡ (updated (pmv_of predictors.old) (context_of structure prediction_type forward backward intra concealment)).pmv.values }
 {
     let values = *predictors;
     let update = pmv::update::updated_predictors(
@@ -164,9 +164,9 @@ pub extern "C" fn fozdrik_bench_vector(
     predictors: &mut [i32; 8],
     vector: &mut [i32; 2],
 ) -> u32
-    ensures code { result ≡ vectorCode (reconstructed (pmvOf predictors.old) (vectorOf code_h residual_h code_v residual_v) (indexOf r) (directionOf s) f_code_h f_code_v (format_of format) (structureOf structure) ported).answer }
-    ensures buffer { predictors.new ≡ (reconstructed (pmvOf predictors.old) (vectorOf code_h residual_h code_v residual_v) (indexOf r) (directionOf s) f_code_h f_code_v (format_of format) (structureOf structure) ported).pmv.values }
-    ensures components { vector.new ≡ componentsOr vector.old (reconstructed (pmvOf predictors.old) (vectorOf code_h residual_h code_v residual_v) (indexOf r) (directionOf s) f_code_h f_code_v (format_of format) (structureOf structure) ported).answer }
+    ensures code { result ≡ vector_code (reconstructed (pmv_of predictors.old) (vector_of code_h residual_h code_v residual_v) (index_of r) (direction_of s) f_code_h f_code_v (format_of format) (structure_of structure) ported).answer }
+    ensures buffer { predictors.new ≡ (reconstructed (pmv_of predictors.old) (vector_of code_h residual_h code_v residual_v) (index_of r) (direction_of s) f_code_h f_code_v (format_of format) (structure_of structure) ported).pmv.values }
+    ensures components { vector.new ≡ components_or vector.old (reconstructed (pmv_of predictors.old) (vector_of code_h residual_h code_v residual_v) (index_of r) (direction_of s) f_code_h f_code_v (format_of format) (structure_of structure) ported).answer }
 {
     let index = index_of(r);
     let direction = direction_of(s);

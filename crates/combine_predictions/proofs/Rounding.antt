@@ -22,5 +22,5 @@ at_most n d p q a b =
     let less : p * d < suc q * d = omega (arith, suc-mul q d, a.above, b.below) in
     omega (arith, lt_of_mul-lt-mul_right d less)
 
-pub nearest-only : (n d p q : ℕ) → Nearest n d p → Nearest n d q → p ≡ q
-nearest-only n d p q a b = omega (arith, at_most n d p q a b, at_most n d q p b a)
+pub nearest_only : (n d p q : ℕ) → Nearest n d p → Nearest n d q → p ≡ q
+nearest_only n d p q a b = omega (arith, at_most n d p q a b, at_most n d q p b a)

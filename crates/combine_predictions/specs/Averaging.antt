@@ -3,7 +3,7 @@
 use Rattle.std.specs.Prelude.{not, List, ℕ, zero, suc, ◌+◌, eqb, length, get_or}
 use Rattle.laws.specs.Tabulate.{tabulate}
 use Rattle.combine_predictions.specs.Rounding.{◌//◌}
-use Rattle.combine_predictions.specs.Refusals.{wrongLength, lengthsDiffer, cause, or_else}
+use Rattle.combine_predictions.specs.Refusals.{wrong_length, lengths_differ, cause, or_else}
 use Rattle.combine_predictions.specs.declared.Averaged.{Averaged}
 use Rattle.combine_predictions.specs.declared.Averaged.TheVariants.{Done, Refused}
 
@@ -16,8 +16,8 @@ abbrev pub averaged : List ℕ → List ℕ → List ℕ
 averaged forward backward = tabulate (length forward) (λ (k : ℕ). mean2 (get_or forward k 0) (get_or backward k 0))
 
 -- the refusal for inputs of f and b bytes and an output of o: 19, then 18
-abbrev pub averageRefusal : ℕ → ℕ → ℕ → ℕ
-averageRefusal f b o = or_else (cause (not (eqb f b)) lengthsDiffer) (cause (not (eqb o f)) wrongLength)
+abbrev pub average_refusal : ℕ → ℕ → ℕ → ℕ
+average_refusal f b o = or_else (cause (not (eqb f b)) lengths_differ) (cause (not (eqb o f)) wrong_length)
 
 -- the scope's number of each answer
 abbrev pub number_of : Averaged → ℕ
@@ -29,5 +29,5 @@ abbrev pub answer_of : ℕ → Averaged
 answer_of zero = Done
 answer_of (suc n) = Refused (suc n)
 
-abbrev pub averageAnswer : ℕ → ℕ → ℕ → Averaged
-averageAnswer f b o = answer_of (averageRefusal f b o)
+abbrev pub average_answer : ℕ → ℕ → ℕ → Averaged
+average_answer f b o = answer_of (average_refusal f b o)

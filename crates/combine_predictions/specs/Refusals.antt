@@ -2,12 +2,12 @@
 use Rattle.std.specs.Prelude.{Bool, true, false, ℕ, zero, suc}
 
 -- the output, or the bytes to place, are of the wrong length
-abbrev pub wrongLength : ℕ
-wrongLength = 18
+abbrev pub wrong_length : ℕ
+wrong_length = 18
 
 -- the lengths of the averaged inputs differ
-abbrev pub lengthsDiffer : ℕ
-lengthsDiffer = 19
+abbrev pub lengths_differ : ℕ
+lengths_differ = 19
 
 -- the number n where its cause is there
 abbrev pub cause : Bool → ℕ → ℕ
@@ -20,6 +20,6 @@ or_else zero m = m
 or_else (suc n) m = suc n
 
 -- what a lent buffer holds at exit: what was written, or, refused, what it held at entry
-abbrev pub unlessRefused : {A : Type 0} → ℕ → A → A → A
-unlessRefused zero written kept = written
-unlessRefused (suc n) written kept = kept
+abbrev pub unless_refused : {A : Type 0} → ℕ → A → A → A
+unless_refused zero written kept = written
+unless_refused (suc n) written kept = kept

@@ -3,8 +3,8 @@
 #![tactic(auto)]
 
 ghost use Rattle.std.specs.Prelude.{◌≡◌, length};
-ghost use Rattle.combine_predictions.specs.Refusals.{unlessRefused};
-ghost use Rattle.combine_predictions.specs.Averaging.{mean2, averaged, averageAnswer, number_of};
+ghost use Rattle.combine_predictions.specs.Refusals.{unless_refused};
+ghost use Rattle.combine_predictions.specs.Averaging.{mean2, averaged, average_answer, number_of};
 ghost use Rattle.combine_predictions.specs.Choosing.{chosen};
 
 /// Refusal: the output is of the wrong length.
@@ -38,8 +38,8 @@ fn avg2(a: u8, b: u8) -> u8
 /// Writes the mean of `forward` and `backward`, sample by sample, to `out`. It refuses inputs of differing lengths, then an output
 /// of another length than theirs, and leaves the output as it was.
 pub fn average_predictions(forward: &[u8], backward: &[u8], out: &mut [u8]) -> Averaged
-    ensures answer { result ≡ averageAnswer (length forward.now) (length backward.now) (length out.old) }
-    ensures buffer { out.new ≡ unlessRefused (number_of result) (averaged forward.now backward.now) out.old }
+    ensures answer { result ≡ average_answer (length forward.now) (length backward.now) (length out.old) }
+    ensures buffer { out.new ≡ unless_refused (number_of result) (averaged forward.now backward.now) out.old }
 {
     if forward.len() != backward.len() {
         return Averaged::Refused(LENGTHS_DIFFER);

@@ -17,8 +17,8 @@ pub record Drifted (n s u : ℕ) : Type 0 where
   pub above : 8 ^ n * s ≤ u + n * 8 ^ n
   pub below : 4 * u ≤ 4 * (8 ^ n * s) + n * 8 ^ n
 
-pub drifted-near : (n s u : ℕ) → Drifted n s u → Near n (4 * n) n s u
-drifted-near n s u d = record { high = omega (arith, d.above, mul_assoc 4 n (8 ^ n)); low = d.below }
+pub drifted_near : (n s u : ℕ) → Drifted n s u → Near n (4 * n) n s u
+drifted_near n s u d = record { high = omega (arith, d.above, mul_assoc 4 n (8 ^ n)); low = d.below }
 
 module _ (P m : ℕ) where
   -- m grey steps above, m / 4 below
@@ -79,18 +79,18 @@ module _ (P m : ℕ) where
             };
       }
 
-pub read-zero : (P m : ℕ) → Read P m 0 0
-read-zero P m = record { above = omega (arith, mul-zero P); below = omega arith }
+pub read_zero : (P m : ℕ) → Read P m 0 0
+read_zero P m = record { above = omega (arith, mul-zero P); below = omega arith }
 
-pub predicted-zero : (P m : ℕ) → Predicted P m 0 0
-predicted-zero P m = record { above = omega (arith, mul-zero P); below = omega arith }
+pub predicted_zero : (P m : ℕ) → Predicted P m 0 0
+predicted_zero P m = record { above = omega (arith, mul-zero P); below = omega arith }
 
-pub drifted-zero : (n : ℕ) → Drifted n 0 0
-drifted-zero n = record { above = omega (arith, mul-zero (8 ^ n)); below = omega arith }
+pub drifted_zero : (n : ℕ) → Drifted n 0 0
+drifted_zero n = record { above = omega (arith, mul-zero (8 ^ n)); below = omega arith }
 
 -- a picture at first
-pub drifted-first : (n s : ℕ) → Drifted n s (8 ^ n * s)
-drifted-first n s = record { above = omega arith; below = omega arith }
+pub drifted_first : (n s : ℕ) → Drifted n s (8 ^ n * s)
+drifted_first n s = record { above = omega arith; below = omega arith }
 
 -- picture j's sample, times 8 to the power m - j, is a read at the scale of picture m + 1
 pub lift : (m j s u : ℕ) → j ≤ m → Drifted j s u → Read (8 ^ m) m s (8 ^ (m - j) * u)
@@ -107,8 +107,8 @@ lift m j s u h n =
           (arith, mul-le-mul_left K n.below, mul_left_comm K 4 u, mul-add K (4 * (8 ^ j * s)) (j * 8 ^ j), mul_left_comm K 4 (8 ^ j * s), d, c, g);
     }
 
-land-suc : (m s u : ℕ) → Predicted (8 ^ m) m s u → Drifted (suc m) s u
-land-suc m s u p =
+land_suc : (m s u : ℕ) → Predicted (8 ^ m) m s u → Drifted (suc m) s u
+land_suc m s u p =
     let e : 8 ^ suc m ≡ 8 * 8 ^ m = pow-succ' 8 m in
     let a : 8 ^ suc m * s ≡ 8 * (8 ^ m * s) = ap (λ (x : ℕ). x * s) e ∙ mul_assoc 8 (8 ^ m) s in
     let b : suc m * 8 ^ suc m ≡ 8 * (m * 8 ^ m) + 8 * 8 ^ m =
@@ -117,4 +117,4 @@ land-suc m s u p =
 
 -- what is predicted for picture n
 pub land : (n s u : ℕ) → 1 ≤ n → Predicted (8 ^ (n - 1)) (n - 1) s u → Drifted n s u
-land n s u h p = subst (λ (x : ℕ). Drifted x s u) (omega arith) (land-suc (n - 1) s u p)
+land n s u h p = subst (λ (x : ℕ). Drifted x s u) (omega arith) (land_suc (n - 1) s u p)

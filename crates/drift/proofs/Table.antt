@@ -8,135 +8,135 @@ use native.Mathlib.Omega.{arith}
 use borrow.Author.Tests.{le-leb, eq-eqb, ne_eqb}
 use lib.Dec.{eqb}
 use Rattle.combine_predictions.specs.Refusals.{cause, or_else}
-use Rattle.forming_predictions.specs.Refusals.{planeFits}
-use Rattle.pmv.specs.Kinds.{chromaNumber}
+use Rattle.forming_predictions.specs.Refusals.{plane_fits}
+use Rattle.pmv.specs.Kinds.{chroma_number}
 use Rattle.pmv.specs.declared.kinds.ChromaFormat.{ChromaFormat}
 use Rattle.pmv.specs.declared.kinds.ChromaFormat.TheVariants.{Yuv420, Yuv422, Yuv444}
-use Rattle.inter_reconstruction.specs.Components.{ColourComponent, luma, cb, cr, columnsOf, lines_of, macroblockBytes}
-use Rattle.inter_reconstruction.specs.Frames.{planeOf}
-use Rattle.inter_reconstruction.specs.Refusals.{everyComponent, sameGeometry, planesFit, referencesRefusal, cellRefusal}
-use Rattle.inter_reconstruction.specs.Placing.{planeSidesFit, cellInside, pictureFits, wellFormed}
+use Rattle.inter_reconstruction.specs.Components.{ColourComponent, luma, cb, cr, columns_of, lines_of, macroblock_bytes}
+use Rattle.inter_reconstruction.specs.Frames.{plane_of}
+use Rattle.inter_reconstruction.specs.Refusals.{every_component, same_geometry, planes_fit, references_refusal, cell_refusal}
+use Rattle.inter_reconstruction.specs.Placing.{plane_sides_fit, cell_inside, picture_fits, well_formed}
 use Rattle.inter_reconstruction.specs.declared.frames.FrameGeometry.{FrameGeometry}
 use Rattle.inter_reconstruction.specs.declared.motion.Uses.{Uses}
 use Rattle.inter_reconstruction.specs.declared.motion.Uses.TheVariants.{Forward, Backward, Both}
-use Rattle.drift.specs.Steps.{Step, stepUses, fittingPlane, fitting, reference}
-use Rattle.drift.specs.Unrounded.{fittingLengths, tableRefusal}
+use Rattle.drift.specs.Steps.{Step, step_uses, fitting_plane, fitting, reference}
+use Rattle.drift.specs.Unrounded.{fitting_lengths, table_refusal}
 
 -- sides that are multiples of 16 from 16 to 16,384
 pub record WellFormed (g : FrameGeometry) : Type 0 where
-  pub wideEnough : 16 ≤ g.width
+  pub wide_enough : 16 ≤ g.width
   pub wide : g.width ≤ 16384
-  pub wideWhole : g.width % 16 ≡ 0
-  pub highEnough : 16 ≤ g.height
+  pub wide_whole : g.width % 16 ≡ 0
+  pub high_enough : 16 ≤ g.height
   pub high : g.height ≤ 16384
-  pub highWhole : g.height % 16 ≡ 0
+  pub high_whole : g.height % 16 ≡ 0
 
 -- 16 or 17, for a reference that is used and absent
-abbrev pub absentRefusal : Option ℕ → Option ℕ → Uses → ℕ
-absentRefusal none b (Forward d) = 16
-absentRefusal (some j) b (Forward d) = 0
-absentRefusal f none (Backward e) = 17
-absentRefusal f (some j) (Backward e) = 0
-absentRefusal none b (Both d e) = 16
-absentRefusal (some i) none (Both d e) = 17
-absentRefusal (some i) (some j) (Both d e) = 0
+abbrev pub absent_refusal : Option ℕ → Option ℕ → Uses → ℕ
+absent_refusal none b (Forward d) = 16
+absent_refusal (some j) b (Forward d) = 0
+absent_refusal f none (Backward e) = 17
+absent_refusal f (some j) (Backward e) = 0
+absent_refusal none b (Both d e) = 16
+absent_refusal (some i) none (Both d e) = 17
+absent_refusal (some i) (some j) (Both d e) = 0
 
 -- 13, then 16 or 17, then 20
-abbrev pub shortTable : FrameGeometry → Step → ℕ
-shortTable g s =
-    or_else (cellRefusal s.column s.row)
-    (or_else (absentRefusal s.forward s.backward (stepUses s))
-    (cause (not (cellInside g s.column s.row)) 20))
+abbrev pub short_table : FrameGeometry → Step → ℕ
+short_table g s =
+    or_else (cell_refusal s.column s.row)
+    (or_else (absent_refusal s.forward s.backward (step_uses s))
+    (cause (not (cell_inside g s.column s.row)) 20))
 
-columns-le : (f : ChromaFormat) (c : ColourComponent) (n : ℕ) → columnsOf f c n ≤ n
-columns-le f luma n = omega arith
-columns-le Yuv420 cb n = omega arith
-columns-le Yuv422 cb n = omega arith
-columns-le Yuv444 cb n = omega arith
-columns-le Yuv420 cr n = omega arith
-columns-le Yuv422 cr n = omega arith
-columns-le Yuv444 cr n = omega arith
+columns_le : (f : ChromaFormat) (c : ColourComponent) (n : ℕ) → columns_of f c n ≤ n
+columns_le f luma n = omega arith
+columns_le Yuv420 cb n = omega arith
+columns_le Yuv422 cb n = omega arith
+columns_le Yuv444 cb n = omega arith
+columns_le Yuv420 cr n = omega arith
+columns_le Yuv422 cr n = omega arith
+columns_le Yuv444 cr n = omega arith
 
-lines-le : (f : ChromaFormat) (c : ColourComponent) (n : ℕ) → lines_of f c n ≤ n
-lines-le f luma n = omega arith
-lines-le Yuv420 cb n = omega arith
-lines-le Yuv422 cb n = omega arith
-lines-le Yuv444 cb n = omega arith
-lines-le Yuv420 cr n = omega arith
-lines-le Yuv422 cr n = omega arith
-lines-le Yuv444 cr n = omega arith
+lines_le : (f : ChromaFormat) (c : ColourComponent) (n : ℕ) → lines_of f c n ≤ n
+lines_le f luma n = omega arith
+lines_le Yuv420 cb n = omega arith
+lines_le Yuv422 cb n = omega arith
+lines_le Yuv444 cb n = omega arith
+lines_le Yuv420 cr n = omega arith
+lines_le Yuv422 cr n = omega arith
+lines_le Yuv444 cr n = omega arith
 
-same-geometry : (g : FrameGeometry) → sameGeometry g g ≡ true
-unfolding sameGeometry
-same-geometry g =
-    rw (eq-eqb g.width g.width refl, eq-eqb g.height g.height refl, eq-eqb (chromaNumber g.chroma_format) (chromaNumber g.chroma_format) refl)
+same_geometry_lem : (g : FrameGeometry) → same_geometry g g ≡ true
+unfolding same_geometry
+same_geometry_lem g =
+    rw (eq-eqb g.width g.width refl, eq-eqb g.height g.height refl, eq-eqb (chroma_number g.chroma_format) (chroma_number g.chroma_format) refl)
 
-every : (t : ColourComponent → Bool) → ((c : ColourComponent) → t c ≡ true) → everyComponent t ≡ true
+every : (t : ColourComponent → Bool) → ((c : ColourComponent) → t c ≡ true) → every_component t ≡ true
 every t h = rw (h luma, h cb, h cr)
 
-orElse-zero : (a : ℕ) → or_else a 0 ≡ a
-orElse-zero zero = refl
-orElse-zero (suc a) = refl
+or_else_zero : (a : ℕ) → or_else a 0 ≡ a
+or_else_zero zero = refl
+or_else_zero (suc a) = refl
 
-orElse-assoc : (a b c : ℕ) → or_else (or_else a b) c ≡ or_else a (or_else b c)
-orElse-assoc zero b c = refl
-orElse-assoc (suc a) b c = refl
+or_else_assoc : (a b c : ℕ) → or_else (or_else a b) c ≡ or_else a (or_else b c)
+or_else_assoc zero b c = refl
+or_else_assoc (suc a) b c = refl
 
-plane-is : (g : FrameGeometry) (c : ColourComponent) → planeOf (fitting g) c ≡ fittingPlane g c
-plane-is g luma = refl
-plane-is g cb = refl
-plane-is g cr = refl
+plane_is : (g : FrameGeometry) (c : ColourComponent) → plane_of (fitting g) c ≡ fitting_plane g c
+plane_is g luma = refl
+plane_is g cb = refl
+plane_is g cr = refl
 
-sides-fit : (g : FrameGeometry) (c : ColourComponent) → planeSidesFit (fitting g) c ≡ true
-sides-fit g c =
-    let a = columnsOf g.chroma_format c g.width in
+sides_fit : (g : FrameGeometry) (c : ColourComponent) → plane_sides_fit (fitting g) c ≡ true
+sides_fit g c =
+    let a = columns_of g.chroma_format c g.width in
     let b = lines_of g.chroma_format c g.height in
-    rw (plane-is g c, eq-eqb a a refl, eq-eqb b b refl) refl
+    rw (plane_is g c, eq-eqb a a refl, eq-eqb b b refl) refl
 
 module _ (g : FrameGeometry) (w : WellFormed g) where
-  plane-fits : (c : ColourComponent) → planeFits (planeOf (fitting g) c).width (planeOf (fitting g) c).height (fittingLengths g c) ≡ true
-  unfolding planeFits
-  plane-fits c =
-      let a = columnsOf g.chroma_format c g.width in
+  plane_fits_lem : (c : ColourComponent) → plane_fits (plane_of (fitting g) c).width (plane_of (fitting g) c).height (fitting_lengths g c) ≡ true
+  unfolding plane_fits
+  plane_fits_lem c =
+      let a = columns_of g.chroma_format c g.width in
       let b = lines_of g.chroma_format c g.height in
       rw (
-        plane-is g c,
-        le-leb a 16384 (omega (arith, columns-le g.chroma_format c g.width, w.wide)),
-        le-leb b 16384 (omega (arith, lines-le g.chroma_format c g.height, w.high)),
+        plane_is g c,
+        le-leb a 16384 (omega (arith, columns_le g.chroma_format c g.width, w.wide)),
+        le-leb b 16384 (omega (arith, lines_le g.chroma_format c g.height, w.high)),
         eq-eqb (a * b) (a * b) refl,
       )
       refl
 
-  planes-fit : planesFit (fitting g) (fittingLengths g) ≡ true
-  unfolding planesFit
-  planes-fit = every (λ (c : ColourComponent). planeFits (planeOf (fitting g) c).width (planeOf (fitting g) c).height (fittingLengths g c)) plane-fits
+  planes_fit_lem : planes_fit (fitting g) (fitting_lengths g) ≡ true
+  unfolding planes_fit
+  planes_fit_lem = every (λ (c : ColourComponent). plane_fits (plane_of (fitting g) c).width (plane_of (fitting g) c).height (fitting_lengths g c)) plane_fits_lem
 
-  picture-fits : pictureFits (fitting g) (fittingLengths g) ≡ true
-  unfolding pictureFits
-  picture-fits = rw (le-leb g.width 16384 w.wide, le-leb g.height 16384 w.high, planes-fit) refl
+  picture_fits_lem : picture_fits (fitting g) (fitting_lengths g) ≡ true
+  unfolding picture_fits
+  picture_fits_lem = rw (le-leb g.width 16384 w.wide, le-leb g.height 16384 w.high, planes_fit_lem) refl
 
-  well-formed : wellFormed (fitting g) ≡ true
-  unfolding wellFormed
-  well-formed =
-      let a : eqb g.width 0 ≡ false = ne_eqb g.width 0 (λ e. omega (arith, w.wideEnough)) in
-      let b : eqb g.height 0 ≡ false = ne_eqb g.height 0 (λ e. omega (arith, w.highEnough)) in
-      rw (a, b, eq-eqb (g.width % 16) 0 w.wideWhole, eq-eqb (g.height % 16) 0 w.highWhole, every (planeSidesFit (fitting g)) (sides-fit g)) refl
+  well_formed_lem : well_formed (fitting g) ≡ true
+  unfolding well_formed
+  well_formed_lem =
+      let a : eqb g.width 0 ≡ false = ne_eqb g.width 0 (λ e. omega (arith, w.wide_enough)) in
+      let b : eqb g.height 0 ≡ false = ne_eqb g.height 0 (λ e. omega (arith, w.high_enough)) in
+      rw (a, b, eq-eqb (g.width % 16) 0 w.wide_whole, eq-eqb (g.height % 16) 0 w.high_whole, every (plane_sides_fit (fitting g)) (sides_fit g)) refl
 
   references : (f b : Option ℕ) (u : Uses)
-      → referencesRefusal g (reference g f) (fittingLengths g) (reference g b) (fittingLengths g) u ≡ absentRefusal f b u
+      → references_refusal g (reference g f) (fitting_lengths g) (reference g b) (fitting_lengths g) u ≡ absent_refusal f b u
   references none b (Forward d) = refl
-  references (some j) b (Forward d) = rw (same-geometry g, planes-fit) refl
+  references (some j) b (Forward d) = rw (same_geometry_lem g, planes_fit_lem) refl
   references f none (Backward e) = refl
-  references f (some j) (Backward e) = rw (same-geometry g, planes-fit) refl
+  references f (some j) (Backward e) = rw (same_geometry_lem g, planes_fit_lem) refl
   references none b (Both d e) = refl
   references (some i) none (Both d e) = refl
-  references (some i) (some j) (Both d e) = rw (same-geometry g, planes-fit) refl
+  references (some i) (some j) (Both d e) = rw (same_geometry_lem g, planes_fit_lem) refl
 
-  pub table-short : (s : Step) → tableRefusal g s ≡ shortTable g s
-  unfolding tableRefusal
-  table-short s =
-      let n = macroblockBytes g.chroma_format in
-      let a = cellRefusal s.column s.row in
-      let b = absentRefusal s.forward s.backward (stepUses s) in
-      let c = cause (not (cellInside g s.column s.row)) 20 in
-      rw (eq-eqb n n refl, references s.forward s.backward (stepUses s), picture-fits, well-formed, orElse-zero c) (orElse-assoc a b c)
+  pub table_short : (s : Step) → table_refusal g s ≡ short_table g s
+  unfolding table_refusal
+  table_short s =
+      let n = macroblock_bytes g.chroma_format in
+      let a = cell_refusal s.column s.row in
+      let b = absent_refusal s.forward s.backward (step_uses s) in
+      let c = cause (not (cell_inside g s.column s.row)) 20 in
+      rw (eq-eqb n n refl, references s.forward s.backward (step_uses s), picture_fits_lem, well_formed_lem, or_else_zero c) (or_else_assoc a b c)

@@ -5,14 +5,14 @@ use Rattle.std.proofs.Math.Option.{Option, none, some}
 use Rattle.laws.specs.All.{All}
 use Rattle.inter_reconstruction.specs.Components.{ColourComponent}
 use Rattle.inter_reconstruction.specs.declared.frames.FrameGeometry.{FrameGeometry}
-use Rattle.drift.specs.Steps.{Step, Pictures, afterSteps}
-use Rattle.drift.specs.Unrounded.{fittingLengths, afterUnroundedSteps, inUnits}
+use Rattle.drift.specs.Steps.{Step, Pictures, after_steps}
+use Rattle.drift.specs.Unrounded.{fitting_lengths, after_unrounded_steps, in_units}
 
 -- ---- what is asked
 
 -- pictures 0 to k have planes that fit one geometry
 abbrev pub Fitting : FrameGeometry → ℕ → Pictures → Type 0
-Fitting g k pictures = (n : ℕ) (c : ColourComponent) → n ≤ k → length (pictures n c) ≡ fittingLengths g c
+Fitting g k pictures = (n : ℕ) (c : ColourComponent) → n ≤ k → length (pictures n c) ≡ fitting_lengths g c
 
 -- a reference is absent or a lower-numbered picture
 abbrev pub Lower : ℕ → Option ℕ → Type 0
@@ -45,7 +45,7 @@ DriftWithin n above below =
     → All (InRange k) steps
     → n ≤ k
     → (c : ColourComponent) (i : ℕ)
-    → Near n above below (get_or (afterSteps g steps first n c) i 0) (get_or (afterUnroundedSteps g steps (inUnits first) n c) i 0)
+    → Near n above below (get_or (after_steps g steps first n c) i 0) (get_or (after_unrounded_steps g steps (in_units first) n c) i 0)
 
 -- demand 3: n grey steps above and n / 4 below, for every picture n
 abbrev pub DriftFigure : Type 0

@@ -3,15 +3,15 @@
 -- to 7.6.7, is all of it here.
 use Rattle.std.specs.Prelude.{Bool, true, false, cond, List, [], ◌∷◌, ℕ, eqb, length}
 use Rattle.std.proofs.Math.Option.{Option, none, some}
-use Rattle.combine_predictions.specs.Refusals.{unlessRefused}
+use Rattle.combine_predictions.specs.Refusals.{unless_refused}
 use Rattle.forming_predictions.specs.Means.{rounded}
 use Rattle.forming_predictions.specs.declared.ReferencePlane.{ReferencePlane}
-use Rattle.inter_reconstruction.specs.Components.{ColourComponent, luma, cb, cr, columnsOf, lines_of, macroblockBytes}
-use Rattle.inter_reconstruction.specs.Motion.{frameUses, fieldUses}
-use Rattle.inter_reconstruction.specs.Frames.{Samples, lengthsOf, readReference}
+use Rattle.inter_reconstruction.specs.Components.{ColourComponent, luma, cb, cr, columns_of, lines_of, macroblock_bytes}
+use Rattle.inter_reconstruction.specs.Motion.{frame_uses, field_uses}
+use Rattle.inter_reconstruction.specs.Frames.{Samples, lengths_of, read_reference}
 use Rattle.inter_reconstruction.specs.Macroblock.{predicted}
-use Rattle.inter_reconstruction.specs.Refusals.{predictionRefusal}
-use Rattle.inter_reconstruction.specs.Placing.{placed, placingRefusal}
+use Rattle.inter_reconstruction.specs.Refusals.{prediction_refusal}
+use Rattle.inter_reconstruction.specs.Placing.{placed, placing_refusal}
 use Rattle.inter_reconstruction.specs.declared.frames.FrameGeometry.{FrameGeometry}
 use Rattle.inter_reconstruction.specs.declared.frames.FrameBuffer.{FrameBuffer}
 use Rattle.inter_reconstruction.specs.declared.frames.ReferenceFrame.{ReferenceFrame}
@@ -23,8 +23,8 @@ use Rattle.inter_reconstruction.specs.declared.motion.Uses.{Uses}
 -- ---- steps
 
 pub data Motion : Type 0 where
-  frameBased : FrameMotion → Motion
-  fieldBased : FieldBasedMotion → Motion
+  frame_based : FrameMotion → Motion
+  field_based : FieldBasedMotion → Motion
 
 -- a macroblock of picture `target` is predicted and placed. A reference is absent, or the picture of this number.
 pub record Step : Type 0 where
@@ -35,17 +35,17 @@ pub record Step : Type 0 where
   pub row : ℕ
   pub motion : Motion
 
-abbrev pub isThere : Option ℕ → Bool
-isThere none = false
-isThere (some j) = true
+abbrev pub is_there : Option ℕ → Bool
+is_there none = false
+is_there (some j) = true
 
-abbrev pub motionUses : Motion → Bool → Bool → Uses
-motionUses (frameBased m) = frameUses m
-motionUses (fieldBased m) = fieldUses m
+abbrev pub motion_uses : Motion → Bool → Bool → Uses
+motion_uses (frame_based m) = frame_uses m
+motion_uses (field_based m) = field_uses m
 
 -- the directions that are used
-abbrev pub stepUses : Step → Uses
-stepUses s = motionUses s.motion (isThere s.forward) (isThere s.backward)
+abbrev pub step_uses : Step → Uses
+step_uses s = motion_uses s.motion (is_there s.forward) (is_there s.backward)
 
 -- ---- pictures
 
@@ -58,11 +58,11 @@ abbrev pub replaced : Pictures → ℕ → Samples → Pictures
 replaced pictures n new m = cond (eqb m n) new (pictures m)
 
 -- a picture of this geometry, its planes fitting
-abbrev pub fittingPlane : FrameGeometry → ColourComponent → ReferencePlane
-fittingPlane g c = record { width = columnsOf g.chroma_format c g.width; height = lines_of g.chroma_format c g.height }
+abbrev pub fitting_plane : FrameGeometry → ColourComponent → ReferencePlane
+fitting_plane g c = record { width = columns_of g.chroma_format c g.width; height = lines_of g.chroma_format c g.height }
 
 abbrev pub fitting : FrameGeometry → FrameBuffer
-fitting g = record { geometry = g; y = fittingPlane g luma; cb = fittingPlane g cb; cr = fittingPlane g cr }
+fitting g = record { geometry = g; y = fitting_plane g luma; cb = fitting_plane g cb; cr = fitting_plane g cr }
 
 -- a reference as the calls get it: the frame, and beside it the samples of its planes. Beside a reference that is absent nothing is read, and
 -- any samples would do
@@ -70,44 +70,44 @@ abbrev pub reference : FrameGeometry → Option ℕ → ReferenceFrame
 reference g none = Absent
 reference g (some j) = Present (fitting g)
 
-abbrev pub referenceSamples : Pictures → Option ℕ → Samples
-referenceSamples pictures none = λ (c : ColourComponent). []
-referenceSamples pictures (some j) = pictures j
+abbrev pub reference_samples : Pictures → Option ℕ → Samples
+reference_samples pictures none = λ (c : ColourComponent). []
+reference_samples pictures (some j) = pictures j
 
 -- ---- a step by the calls
 
 -- what the prediction refuses, and what it writes. Its output has a macroblock's length, and what is placed is that output, so that no step is
 -- refused with 18: a call that is, with a buffer of another length, changes nothing, and a list with it is the list without it
-unfoldable pub stepPredictionRefusal : FrameGeometry → Step → Pictures → ℕ
-stepPredictionRefusal g s pictures =
-    predictionRefusal g (macroblockBytes g.chroma_format)
-    (reference g s.forward) (lengthsOf (referenceSamples pictures s.forward))
-    (reference g s.backward) (lengthsOf (referenceSamples pictures s.backward))
-    (stepUses s) s.column s.row
+unfoldable pub step_prediction_refusal : FrameGeometry → Step → Pictures → ℕ
+step_prediction_refusal g s pictures =
+    prediction_refusal g (macroblock_bytes g.chroma_format)
+    (reference g s.forward) (lengths_of (reference_samples pictures s.forward))
+    (reference g s.backward) (lengths_of (reference_samples pictures s.backward))
+    (step_uses s) s.column s.row
 
 unfoldable pub prediction : FrameGeometry → Step → Pictures → List ℕ
 prediction g s pictures =
     predicted rounded g.chroma_format
-    (readReference (reference g s.forward) (referenceSamples pictures s.forward))
-    (readReference (reference g s.backward) (referenceSamples pictures s.backward))
-    (stepUses s) s.column s.row
+    (read_reference (reference g s.forward) (reference_samples pictures s.forward))
+    (read_reference (reference g s.backward) (reference_samples pictures s.backward))
+    (step_uses s) s.column s.row
 
 -- what placing it in the same cell refuses, and what it leaves
-unfoldable pub stepPlacingRefusal : FrameGeometry → Step → Pictures → ℕ
-stepPlacingRefusal g s pictures =
-    placingRefusal (fitting g) (lengthsOf (pictures s.target)) (length (prediction g s pictures)) s.column s.row
+unfoldable pub step_placing_refusal : FrameGeometry → Step → Pictures → ℕ
+step_placing_refusal g s pictures =
+    placing_refusal (fitting g) (lengths_of (pictures s.target)) (length (prediction g s pictures)) s.column s.row
 
 unfoldable pub placement : FrameGeometry → Step → Pictures → Samples
 placement g s pictures = placed (fitting g) s.column s.row (prediction g s pictures) (pictures s.target)
 
 -- a refusal by either call changes no picture
-abbrev pub afterStep : FrameGeometry → Step → Pictures → Pictures
-afterStep g s pictures =
-    unlessRefused (stepPredictionRefusal g s pictures)
-    (unlessRefused (stepPlacingRefusal g s pictures) (replaced pictures s.target (placement g s pictures)) pictures)
+abbrev pub after_step : FrameGeometry → Step → Pictures → Pictures
+after_step g s pictures =
+    unless_refused (step_prediction_refusal g s pictures)
+    (unless_refused (step_placing_refusal g s pictures) (replaced pictures s.target (placement g s pictures)) pictures)
     pictures
 
 -- one step after the other
-abbrev pub afterSteps : FrameGeometry → List Step → Pictures → Pictures
-afterSteps g [] pictures = pictures
-afterSteps g (s ∷ ss) pictures = afterSteps g ss (afterStep g s pictures)
+abbrev pub after_steps : FrameGeometry → List Step → Pictures → Pictures
+after_steps g [] pictures = pictures
+after_steps g (s ∷ ss) pictures = after_steps g ss (after_step g s pictures)

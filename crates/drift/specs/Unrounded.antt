@@ -4,16 +4,16 @@
 -- of the calls; the arithmetic is the scope's and not the standard's.
 use Rattle.std.specs.Prelude.{List, [], ◌∷◌, map, ℕ, ◌+◌, ◌-◌, ◌*◌, ◌^◌, ℤ}
 use Rattle.std.proofs.Math.Option.{Option, none, some}
-use Rattle.combine_predictions.specs.Refusals.{or_else, unlessRefused}
+use Rattle.combine_predictions.specs.Refusals.{or_else, unless_refused}
 use Rattle.forming_predictions.specs.Lines.{Lines}
 use Rattle.forming_predictions.specs.Means.{Means}
-use Rattle.inter_reconstruction.specs.Components.{ColourComponent, macroblockBytes}
-use Rattle.inter_reconstruction.specs.Frames.{Samples, PlaneReading, planeOf, readFrame}
+use Rattle.inter_reconstruction.specs.Components.{ColourComponent, macroblock_bytes}
+use Rattle.inter_reconstruction.specs.Frames.{Samples, PlaneReading, plane_of, read_frame}
 use Rattle.inter_reconstruction.specs.Macroblock.{predicted}
-use Rattle.inter_reconstruction.specs.Refusals.{predictionRefusal}
-use Rattle.inter_reconstruction.specs.Placing.{placed, placingRefusal}
+use Rattle.inter_reconstruction.specs.Refusals.{prediction_refusal}
+use Rattle.inter_reconstruction.specs.Placing.{placed, placing_refusal}
 use Rattle.inter_reconstruction.specs.declared.frames.FrameGeometry.{FrameGeometry}
-use Rattle.drift.specs.Steps.{Step, stepUses, Pictures, replaced, fitting, reference}
+use Rattle.drift.specs.Steps.{Step, step_uses, Pictures, replaced, fitting, reference}
 
 -- nothing is divided. A direction adds one sample four times, two neighbours twice each, or four once; a single direction is doubled
 abbrev pub unrounded : Means
@@ -29,43 +29,43 @@ unrounded =
 -- ---- what the table refuses, from the geometry and the step
 
 -- as many samples as the sides say
-abbrev pub fittingLengths : FrameGeometry → ColourComponent → ℕ
-fittingLengths g c = (planeOf (fitting g) c).width * (planeOf (fitting g) c).height
+abbrev pub fitting_lengths : FrameGeometry → ColourComponent → ℕ
+fitting_lengths g c = (plane_of (fitting g) c).width * (plane_of (fitting g) c).height
 
 -- prediction, then placing
-unfoldable pub tableRefusal : FrameGeometry → Step → ℕ
-tableRefusal g s =
+unfoldable pub table_refusal : FrameGeometry → Step → ℕ
+table_refusal g s =
     or_else
-    (predictionRefusal g (macroblockBytes g.chroma_format) (reference g s.forward) (fittingLengths g)
-    (reference g s.backward) (fittingLengths g) (stepUses s) s.column s.row)
-    (placingRefusal (fitting g) (fittingLengths g) (macroblockBytes g.chroma_format) s.column s.row)
+    (prediction_refusal g (macroblock_bytes g.chroma_format) (reference g s.forward) (fitting_lengths g)
+    (reference g s.backward) (fitting_lengths g) (step_uses s) s.column s.row)
+    (placing_refusal (fitting g) (fitting_lengths g) (macroblock_bytes g.chroma_format) s.column s.row)
 
 -- ---- a step
 
 -- what is read for picture n: where prediction reads, but out of the reference's unrounded picture, and with j its number, times 8 to the
 -- power n - 1 - j. Of a reference that is absent nothing is ever read.
-abbrev pub unroundedReading : FrameGeometry → ℕ → Pictures → Option ℕ → ColourComponent → PlaneReading
-unroundedReading g n pictures none c = λ (l : Lines) (x y : ℤ). 0
-unroundedReading g n pictures (some j) c = λ (l : Lines) (x y : ℤ). 8 ^ (n - 1 - j) * readFrame (fitting g) (pictures j) c l x y
+abbrev pub unrounded_reading : FrameGeometry → ℕ → Pictures → Option ℕ → ColourComponent → PlaneReading
+unrounded_reading g n pictures none c = λ (l : Lines) (x y : ℤ). 0
+unrounded_reading g n pictures (some j) c = λ (l : Lines) (x y : ℤ). 8 ^ (n - 1 - j) * read_frame (fitting g) (pictures j) c l x y
 
-unfoldable pub unroundedPrediction : FrameGeometry → Step → Pictures → List ℕ
-unroundedPrediction g s pictures =
+unfoldable pub unrounded_prediction : FrameGeometry → Step → Pictures → List ℕ
+unrounded_prediction g s pictures =
     predicted unrounded g.chroma_format
-    (unroundedReading g s.target pictures s.forward)
-    (unroundedReading g s.target pictures s.backward)
-    (stepUses s) s.column s.row
+    (unrounded_reading g s.target pictures s.forward)
+    (unrounded_reading g s.target pictures s.backward)
+    (step_uses s) s.column s.row
 
-unfoldable pub unroundedPlacement : FrameGeometry → Step → Pictures → Samples
-unroundedPlacement g s pictures = placed (fitting g) s.column s.row (unroundedPrediction g s pictures) (pictures s.target)
+unfoldable pub unrounded_placement : FrameGeometry → Step → Pictures → Samples
+unrounded_placement g s pictures = placed (fitting g) s.column s.row (unrounded_prediction g s pictures) (pictures s.target)
 
-abbrev pub afterUnrounded : FrameGeometry → Step → Pictures → Pictures
-afterUnrounded g s pictures =
-    unlessRefused (tableRefusal g s) (replaced pictures s.target (unroundedPlacement g s pictures)) pictures
+abbrev pub after_unrounded : FrameGeometry → Step → Pictures → Pictures
+after_unrounded g s pictures =
+    unless_refused (table_refusal g s) (replaced pictures s.target (unrounded_placement g s pictures)) pictures
 
-abbrev pub afterUnroundedSteps : FrameGeometry → List Step → Pictures → Pictures
-afterUnroundedSteps g [] pictures = pictures
-afterUnroundedSteps g (s ∷ ss) pictures = afterUnroundedSteps g ss (afterUnrounded g s pictures)
+abbrev pub after_unrounded_steps : FrameGeometry → List Step → Pictures → Pictures
+after_unrounded_steps g [] pictures = pictures
+after_unrounded_steps g (s ∷ ss) pictures = after_unrounded_steps g ss (after_unrounded g s pictures)
 
 -- picture n starts as its first bytes times 8 to the power n
-abbrev pub inUnits : Pictures → Pictures
-inUnits pictures n c = map (λ (b : ℕ). 8 ^ n * b) (pictures n c)
+abbrev pub in_units : Pictures → Pictures
+in_units pictures n c = map (λ (b : ℕ). 8 ^ n * b) (pictures n c)

@@ -9,14 +9,14 @@ use lib.Dec.{eqb}
 use lib.ListN.{length, get_or, set}
 use borrow.Author.Tests.{eqb-true}
 use Rattle.laws.proofs.Tests.{both}
-use Rattle.combine_predictions.specs.Refusals.{unlessRefused}
-use Rattle.pmv.specs.Answers.{updateNumber, updateAnswer}
-use Rattle.pmv.specs.Update.{updateRefusal, updateOutcome, outcomeNumber, after, updated}
-use Rattle.pmv.specs.Kinds.{flagFrom, flagKnown, indexFrom, indexKnown, directionFrom, directionKnown, formatFrom, formatKnown, structureFrom, structureKnown, typeFrom, typeKnown}
-use Rattle.entry_points.specs.Layout.{predictorsOf, predictorBytes}
-use Rattle.entry_points.specs.Entries.{presenceKnown, vectorKnown, updateKnown}
-use Rattle.entry_points.specs.inner.Outcomes.{outcomeByte}
-use Rattle.entry_points.proofs.ReadBack.{bytes-read-back}
+use Rattle.combine_predictions.specs.Refusals.{unless_refused}
+use Rattle.pmv.specs.Answers.{update_number, update_answer}
+use Rattle.pmv.specs.Update.{update_refusal, update_outcome, outcome_number, after, updated}
+use Rattle.pmv.specs.Kinds.{flag_from, flag_known, index_from, index_known, direction_from, direction_known, format_from, format_known, structure_from, structure_known, type_from, type_known}
+use Rattle.entry_points.specs.Layout.{predictors_of, predictor_bytes}
+use Rattle.entry_points.specs.Entries.{presence_known, vector_known, update_known}
+use Rattle.entry_points.specs.inner.Outcomes.{outcome_byte}
+use Rattle.entry_points.proofs.ReadBack.{bytes_read_back}
 use Rattle.pmv.specs.declared.predictors.Pmv.{Pmv}
 use Rattle.pmv.specs.declared.update.PmvUpdateContext.{PmvUpdateContext}
 use Rattle.pmv.specs.declared.update.PredictorUpdate.{PredictorUpdate}
@@ -37,32 +37,32 @@ one_same (x ∷ y ∷ l) e = absurd (omega arith)
 module _ (x : PmvUpdateContext) (p o : List ℕ) (np : length p ≡ 32) (bp : (i : ℕ) → get_or p i 0 < 256) (no : length o ≡ 1) where
   abbrev Left : ℕ → Updated → Pmv → Type 0
   Left m r q =
-      (updateNumber r ≡ m)
-      × ((predictorBytes q ≡ unlessRefused (updateNumber r) (predictorBytes q) p)
-      × (set o 0 (outcomeByte r (get_or o 0 0)) ≡ unlessRefused (updateNumber r) (outcomeNumber (updateOutcome x) ∷ []) o))
+      (update_number r ≡ m)
+      × ((predictor_bytes q ≡ unless_refused (update_number r) (predictor_bytes q) p)
+      × (set o 0 (outcome_byte r (get_or o 0 0)) ≡ unless_refused (update_number r) (outcome_number (update_outcome x) ∷ []) o))
 
-  at : (m : ℕ) → Left m (updateAnswer m (updateOutcome x)) (unlessRefused m (after (updateOutcome x) (predictorsOf p)) (predictorsOf p))
-  at zero = (refl, (refl, one_set o (outcomeNumber (updateOutcome x)) no))
-  at (suc m) = (refl, (bytes-read-back p np bp, one_same o no))
+  at : (m : ℕ) → Left m (update_answer m (update_outcome x)) (unless_refused m (after (update_outcome x) (predictors_of p)) (predictors_of p))
+  at zero = (refl, (refl, one_set o (outcome_number (update_outcome x)) no))
+  at (suc m) = (refl, (bytes_read_back p np bp, one_same o no))
 
-  pub updated-left : (u : PredictorUpdate) → u ≡ updated (predictorsOf p) x → Left (updateRefusal x) u.answer u.pmv
+  pub updated_left : (u : PredictorUpdate) → u ≡ updated (predictors_of p) x → Left (update_refusal x) u.answer u.pmv
   unfolding updated
-  updated-left u e = rw e (at (updateRefusal x))
+  updated_left u e = rw e (at (update_refusal x))
 
 -- ---- the lengths of the buffers, where all is known
-pub vector-lengths : (r s h v f t p n : ℕ) → vectorKnown r s h v f t p n ≡ true → (p ≡ 32) × (n ≡ 8)
-unfolding vectorKnown
-vector-lengths r s h v f t p n e =
-    let a = both (indexKnown (indexFrom r) && (directionKnown (directionFrom s) && (flagKnown (flagFrom h) && flagKnown (flagFrom v)))) ((formatKnown (formatFrom f) && structureKnown (structureFrom t)) && (eqb p 32 && eqb n 8)) e in
-    let b = both (formatKnown (formatFrom f) && structureKnown (structureFrom t)) (eqb p 32 && eqb n 8) a.1 in
+pub vector_lengths : (r s h v f t p n : ℕ) → vector_known r s h v f t p n ≡ true → (p ≡ 32) × (n ≡ 8)
+unfolding vector_known
+vector_lengths r s h v f t p n e =
+    let a = both (index_known (index_from r) && (direction_known (direction_from s) && (flag_known (flag_from h) && flag_known (flag_from v)))) ((format_known (format_from f) && structure_known (structure_from t)) && (eqb p 32 && eqb n 8)) e in
+    let b = both (format_known (format_from f) && structure_known (structure_from t)) (eqb p 32 && eqb n 8) a.1 in
     let c = both (eqb p 32) (eqb n 8) b.1 in
     (eqb-true p 32 c.0, eqb-true n 8 c.1)
 
-pub update-lengths : (t y k f b i c p n : ℕ) → updateKnown t y k f b i c p n ≡ true → (p ≡ 32) × (n ≡ 1)
-unfolding updateKnown
-update-lengths t y k f b i c p n e =
-    let flags = (flagKnown (flagFrom f) && flagKnown (flagFrom b)) && (flagKnown (flagFrom i) && flagKnown (flagFrom c)) in
-    let g = both (structureKnown (structureFrom t) && presenceKnown y (typeKnown (typeFrom k))) (flags && (eqb p 32 && eqb n 1)) e in
+pub update_lengths : (t y k f b i c p n : ℕ) → update_known t y k f b i c p n ≡ true → (p ≡ 32) × (n ≡ 1)
+unfolding update_known
+update_lengths t y k f b i c p n e =
+    let flags = (flag_known (flag_from f) && flag_known (flag_from b)) && (flag_known (flag_from i) && flag_known (flag_from c)) in
+    let g = both (structure_known (structure_from t) && presence_known y (type_known (type_from k))) (flags && (eqb p 32 && eqb n 1)) e in
     let h = both flags (eqb p 32 && eqb n 1) g.1 in
     let l = both (eqb p 32) (eqb n 1) h.1 in
     (eqb-true p 32 l.0, eqb-true n 1 l.1)

@@ -13,8 +13,8 @@ use mir.Syntax.{w32}
 use mir.Val.{SFits, of_z}
 use mir.Facts.{to_z-of_z, Fits-of_z}
 use borrow.Rule.Slice.PartMut.{put_mid, post_of}
-use Rattle.entry_points.specs.Layout.{word_of, signed_of, bytes_of, number_at, predictorsOf, pairBytes, numbersBytes}
-use Rattle.pmv.specs.Predictors.{pmvIndex, pair_of}
+use Rattle.entry_points.specs.Layout.{word_of, signed_of, bytes_of, number_at, predictors_of, pair_bytes, numbers_bytes}
+use Rattle.pmv.specs.Predictors.{pmv_index, pair_of}
 use Rattle.pmv.specs.declared.kinds.Component.TheVariants.{Horizontal}
 use Rattle.pmv.specs.declared.kinds.VectorIndex.{VectorIndex}
 use Rattle.pmv.specs.declared.kinds.VectorIndex.TheVariants.{First, Second}
@@ -23,26 +23,26 @@ use Rattle.pmv.specs.declared.kinds.Direction.TheVariants.{Forward, Backward}
 use Rattle.pmv.specs.declared.predictors.PredictorPair.{PredictorPair}
 
 -- the definitions are the machine's
-pub word-is : (z : ℤ) → of_z w32 z ≡ word_of z
-word-is (pos n) = refl
-word-is (negsuc n) = refl
+pub word_is : (z : ℤ) → of_z w32 z ≡ word_of z
+word_is (pos n) = refl
+word_is (negsuc n) = refl
 
 pub word_fits : (z : ℤ) → SFits w32 z → word_of z < 4294967296
-word_fits z f = rw (← word-is z) (Fits-of_z f).fits
+word_fits z f = rw (← word_is z) (Fits-of_z f).fits
 
-pub number-back : (z : ℤ) → SFits w32 z → signed_of (word_of z) ≡ z
-number-back z f = rw (← word-is z) (to_z-of_z f)
+pub number_back : (z : ℤ) → SFits w32 z → signed_of (word_of z) ≡ z
+number_back z f = rw (← word_is z) (to_z-of_z f)
 
 -- ---- bytes
 
 -- four stores into four bytes
-pub four-set : (l : List ℕ) (a b c d : ℕ) → length l ≡ 4 → set (set (set (set l 0 a) 1 b) 2 c) 3 d ≡ a ∷ b ∷ c ∷ d ∷ []
-four-set [] a b c d e = absurd (omega arith)
-four-set (x ∷ []) a b c d e = absurd (omega arith)
-four-set (x ∷ y ∷ []) a b c d e = absurd (omega arith)
-four-set (x ∷ y ∷ z ∷ []) a b c d e = absurd (omega arith)
-four-set (x ∷ y ∷ z ∷ w ∷ []) a b c d e = refl
-four-set (x ∷ y ∷ z ∷ w ∷ v ∷ l) a b c d e = absurd (omega arith)
+pub four_set : (l : List ℕ) (a b c d : ℕ) → length l ≡ 4 → set (set (set (set l 0 a) 1 b) 2 c) 3 d ≡ a ∷ b ∷ c ∷ d ∷ []
+four_set [] a b c d e = absurd (omega arith)
+four_set (x ∷ []) a b c d e = absurd (omega arith)
+four_set (x ∷ y ∷ []) a b c d e = absurd (omega arith)
+four_set (x ∷ y ∷ z ∷ []) a b c d e = absurd (omega arith)
+four_set (x ∷ y ∷ z ∷ w ∷ []) a b c d e = refl
+four_set (x ∷ y ∷ z ∷ w ∷ v ∷ l) a b c d e = absurd (omega arith)
 
 -- a word out of its bytes
 pub word_back : (n : ℕ) → n < 4294967296
@@ -55,21 +55,21 @@ word_back n h =
     let q4 = mod-eq_of_lt t in
     omega arith
 
-pub bytes-length : (z : ℤ) → length (bytes_of z) ≡ 4
+pub bytes_length : (z : ℤ) → length (bytes_of z) ≡ 4
 unfolding bytes_of
-bytes-length z = refl
+bytes_length z = refl
 
 -- ---- the two predictors of a vector
-pub pair-at : (l : List ℕ) (r : VectorIndex) (s : Direction) (k : ℕ) (h v : ℤ)
-    → k ≡ pmvIndex r s Horizontal
+pub pair_at : (l : List ℕ) (r : VectorIndex) (s : Direction) (k : ℕ) (h v : ℤ)
+    → k ≡ pmv_index r s Horizontal
     → h ≡ number_at l (4 * k)
     → v ≡ number_at l (4 * k + 4)
-    → ◌≡◌ {A = PredictorPair} (record { horizontal = h; vertical = v }) (pair_of (predictorsOf l) r s)
-unfolding predictorsOf
-pair-at l First Forward k h v e p q = λ i. record { horizontal = (p ∙ ap (λ (j : ℕ). number_at l (4 * j)) e) i; vertical = (q ∙ ap (λ (j : ℕ). number_at l (4 * j + 4)) e) i }
-pair-at l First Backward k h v e p q = λ i. record { horizontal = (p ∙ ap (λ (j : ℕ). number_at l (4 * j)) e) i; vertical = (q ∙ ap (λ (j : ℕ). number_at l (4 * j + 4)) e) i }
-pair-at l Second Forward k h v e p q = λ i. record { horizontal = (p ∙ ap (λ (j : ℕ). number_at l (4 * j)) e) i; vertical = (q ∙ ap (λ (j : ℕ). number_at l (4 * j + 4)) e) i }
-pair-at l Second Backward k h v e p q = λ i. record { horizontal = (p ∙ ap (λ (j : ℕ). number_at l (4 * j)) e) i; vertical = (q ∙ ap (λ (j : ℕ). number_at l (4 * j + 4)) e) i }
+    → ◌≡◌ {A = PredictorPair} (record { horizontal = h; vertical = v }) (pair_of (predictors_of l) r s)
+unfolding predictors_of
+pair_at l First Forward k h v e p q = λ i. record { horizontal = (p ∙ ap (λ (j : ℕ). number_at l (4 * j)) e) i; vertical = (q ∙ ap (λ (j : ℕ). number_at l (4 * j + 4)) e) i }
+pair_at l First Backward k h v e p q = λ i. record { horizontal = (p ∙ ap (λ (j : ℕ). number_at l (4 * j)) e) i; vertical = (q ∙ ap (λ (j : ℕ). number_at l (4 * j + 4)) e) i }
+pair_at l Second Forward k h v e p q = λ i. record { horizontal = (p ∙ ap (λ (j : ℕ). number_at l (4 * j)) e) i; vertical = (q ∙ ap (λ (j : ℕ). number_at l (4 * j + 4)) e) i }
+pair_at l Second Backward k h v e p q = λ i. record { horizontal = (p ∙ ap (λ (j : ℕ). number_at l (4 * j)) e) i; vertical = (q ∙ ap (λ (j : ℕ). number_at l (4 * j + 4)) e) i }
 
 -- x and then y written to the two halves of l
 pub halves_written : (k : ℕ) (l : List ℕ) {a b x y : List ℕ}
@@ -79,43 +79,43 @@ halves_written k l {a} {b} {x} {y} e f n m h =
     rw (e, f, take_at x (drop k l) k n, drop_at x (drop k l) k n, drop-drop k k l, ← h, drop-length l, append-nil y)
 
 -- eight bytes written to &mut l[k..k + 8]
-pub replaced-is : (k : ℕ) (l ys : List ℕ) → put_mid k (k + 8 - k) l ys ≡ take k l ++ (ys ++ drop (k + 8) l)
-replaced-is k l ys = let e : k + 8 - k ≡ 8 = omega arith in rw (e, drop-drop 8 k l)
+pub replaced_is : (k : ℕ) (l ys : List ℕ) → put_mid k (k + 8 - k) l ys ≡ take k l ++ (ys ++ drop (k + 8) l)
+replaced_is k l ys = let e : k + 8 - k ≡ 8 = omega arith in rw (e, drop-drop 8 k l)
 
-pub pair-length : (h v : ℤ) → length (pairBytes h v) ≡ 8
+pub pair_length : (h v : ℤ) → length (pair_bytes h v) ≡ 8
 unfolding bytes_of
-pair-length h v = refl
+pair_length h v = refl
 
-pub four-length : (a b c d : ℤ) → length (pairBytes a b ++ pairBytes c d) ≡ 16
+pub four_length : (a b c d : ℤ) → length (pair_bytes a b ++ pair_bytes c d) ≡ 16
 unfolding bytes_of
-four-length a b c d = refl
+four_length a b c d = refl
 
 -- ---- eight numbers
 
 pub data Eight : List ℤ → Type 0 where
   eight : (a b c d e f g h : ℤ) → Eight (a ∷ b ∷ c ∷ d ∷ e ∷ f ∷ g ∷ h ∷ [])
 
-pub eight-of : (l : List ℤ) → length l ≡ 8 → Eight l
-eight-of (a ∷ b ∷ c ∷ d ∷ e ∷ f ∷ g ∷ h ∷ []) n = eight a b c d e f g h
-eight-of (a ∷ b ∷ c ∷ d ∷ e ∷ f ∷ g ∷ h ∷ i ∷ l) n = absurd (omega arith)
-eight-of [] n = absurd (omega arith)
-eight-of (a ∷ []) n = absurd (omega arith)
-eight-of (a ∷ b ∷ []) n = absurd (omega arith)
-eight-of (a ∷ b ∷ c ∷ []) n = absurd (omega arith)
-eight-of (a ∷ b ∷ c ∷ d ∷ []) n = absurd (omega arith)
-eight-of (a ∷ b ∷ c ∷ d ∷ e ∷ []) n = absurd (omega arith)
-eight-of (a ∷ b ∷ c ∷ d ∷ e ∷ f ∷ []) n = absurd (omega arith)
-eight-of (a ∷ b ∷ c ∷ d ∷ e ∷ f ∷ g ∷ []) n = absurd (omega arith)
+pub eight_of : (l : List ℤ) → length l ≡ 8 → Eight l
+eight_of (a ∷ b ∷ c ∷ d ∷ e ∷ f ∷ g ∷ h ∷ []) n = eight a b c d e f g h
+eight_of (a ∷ b ∷ c ∷ d ∷ e ∷ f ∷ g ∷ h ∷ i ∷ l) n = absurd (omega arith)
+eight_of [] n = absurd (omega arith)
+eight_of (a ∷ []) n = absurd (omega arith)
+eight_of (a ∷ b ∷ []) n = absurd (omega arith)
+eight_of (a ∷ b ∷ c ∷ []) n = absurd (omega arith)
+eight_of (a ∷ b ∷ c ∷ d ∷ []) n = absurd (omega arith)
+eight_of (a ∷ b ∷ c ∷ d ∷ e ∷ []) n = absurd (omega arith)
+eight_of (a ∷ b ∷ c ∷ d ∷ e ∷ f ∷ []) n = absurd (omega arith)
+eight_of (a ∷ b ∷ c ∷ d ∷ e ∷ f ∷ g ∷ []) n = absurd (omega arith)
 
 -- their bytes, in two halves
 abbrev InHalves : List ℤ → Type 0
 InHalves l =
     (let at : ℕ → ℤ = λ i. get_or l i (pos 0) in
-    (pairBytes (at 0) (at 1) ++ pairBytes (at 2) (at 3)) ++ (pairBytes (at 4) (at 5) ++ pairBytes (at 6) (at 7)) ≡ numbersBytes l)
+    (pair_bytes (at 0) (at 1) ++ pair_bytes (at 2) (at 3)) ++ (pair_bytes (at 4) (at 5) ++ pair_bytes (at 6) (at 7)) ≡ numbers_bytes l)
 
-pub eight-bytes : (l : List ℤ) → length l ≡ 8 → InHalves l
-unfolding bytes_of numbersBytes
-eight-bytes l n = in_halves (eight-of l n)
+pub eight_bytes : (l : List ℤ) → length l ≡ 8 → InHalves l
+unfolding bytes_of numbers_bytes
+eight_bytes l n = in_halves (eight_of l n)
   where
     in_halves : {l : List ℤ} → Eight l → InHalves l
     in_halves (eight a b c d e f g h) = refl

@@ -2,7 +2,7 @@
 -- the predictors are read back out of their bytes, and the bytes out of the predictors.
 -- docs/SCOPE.md leaves the layout to docs/C-INTERFACE.md, which has it in words ("Layouts"). Nothing here is the standard's.
 use Rattle.std.specs.Prelude.{cond, List, [], ◌∷◌, ◌++◌, ℕ, suc, ◌+◌, ◌-◌, ◌*◌, ◌/◌, ◌%◌, ltb, ℤ, pos, negsuc, get_or, take, drop}
-use Rattle.pmv.specs.Predictors.{pmvIndex}
+use Rattle.pmv.specs.Predictors.{pmv_index}
 use Rattle.pmv.specs.declared.kinds.Component.TheVariants.{Horizontal}
 use Rattle.pmv.specs.declared.kinds.VectorIndex.{VectorIndex}
 use Rattle.pmv.specs.declared.kinds.Direction.{Direction}
@@ -36,27 +36,27 @@ number_at l k = signed_of (word_at l k)
 
 -- ---- the predictors: eight numbers, 32 bytes
 
-unfoldable pub predictorsOf : List ℕ → Pmv
-predictorsOf l =
+unfoldable pub predictors_of : List ℕ → Pmv
+predictors_of l =
     record {
       values =
           number_at l 0 ∷ number_at l 4 ∷ number_at l 8 ∷ number_at l 12
           ∷ number_at l 16 ∷ number_at l 20 ∷ number_at l 24 ∷ number_at l 28 ∷ [];
     }
 
-unfoldable pub numbersBytes : List ℤ → List ℕ
-numbersBytes [] = []
-numbersBytes (z ∷ zs) = bytes_of z ++ numbersBytes zs
+unfoldable pub numbers_bytes : List ℤ → List ℕ
+numbers_bytes [] = []
+numbers_bytes (z ∷ zs) = bytes_of z ++ numbers_bytes zs
 
-abbrev pub predictorBytes : Pmv → List ℕ
-predictorBytes p = numbersBytes p.values
+abbrev pub predictor_bytes : Pmv → List ℕ
+predictor_bytes p = numbers_bytes p.values
 
 -- two numbers: the predictors of one vector, or a vector's components
-abbrev pub pairBytes : ℤ → ℤ → List ℕ
-pairBytes h v = bytes_of h ++ bytes_of v
+abbrev pub pair_bytes : ℤ → ℤ → List ℕ
+pair_bytes h v = bytes_of h ++ bytes_of v
 
 -- PMV[r][s][1:0] replaced: its eight bytes, and no others
-unfoldable pub withPair : List ℕ → VectorIndex → Direction → PredictorPair → List ℕ
-withPair l r s p =
-    take (4 * pmvIndex r s Horizontal) l
-    ++ (pairBytes p.horizontal p.vertical ++ drop (4 * pmvIndex r s Horizontal + 8) l)
+unfoldable pub with_pair : List ℕ → VectorIndex → Direction → PredictorPair → List ℕ
+with_pair l r s p =
+    take (4 * pmv_index r s Horizontal) l
+    ++ (pair_bytes p.horizontal p.vertical ++ drop (4 * pmv_index r s Horizontal + 8) l)

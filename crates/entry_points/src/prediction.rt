@@ -1,13 +1,13 @@
 //! The card's C entry points for prediction. Kinds and flags are numbers; what is absent has a 0 beside it, and its other numbers are not read.
 ghost use Rattle.std.specs.Prelude.{◌≡◌, length};
-ghost use Rattle.combine_predictions.specs.Refusals.{or_else, unlessRefused};
+ghost use Rattle.combine_predictions.specs.Refusals.{or_else, unless_refused};
 ghost use Rattle.forming_predictions.specs.Means.{rounded};
-ghost use Rattle.inter_reconstruction.specs.Motion.{frameUses, fieldUses};
-ghost use Rattle.inter_reconstruction.specs.Frames.{samplesOf, lengthsOf, isPresent, readReference};
+ghost use Rattle.inter_reconstruction.specs.Motion.{frame_uses, field_uses};
+ghost use Rattle.inter_reconstruction.specs.Frames.{samples_of, lengths_of, is_present, read_reference};
 ghost use Rattle.inter_reconstruction.specs.Macroblock.{predicted};
-ghost use Rattle.inter_reconstruction.specs.Refusals.{predictionRefusal};
-ghost use Rattle.inter_reconstruction.specs.Answers.{predictionNumber};
-ghost use Rattle.entry_points.specs.Entries.{unknownRefusal, is_yes, presenceKnown, referenceKnown, fieldsKnown, frameKnown, fieldKnown, geometryOf, referenceOf, frameDirectionOf, fieldVectorOf, fieldDirectionOf, frameMotionOf, fieldMotionOf};
+ghost use Rattle.inter_reconstruction.specs.Refusals.{prediction_refusal};
+ghost use Rattle.inter_reconstruction.specs.Answers.{prediction_number};
+ghost use Rattle.entry_points.specs.Entries.{unknown_refusal, is_yes, presence_known, reference_known, fields_known, frame_known, field_known, geometry_of, reference_of, frame_direction_of, field_vector_of, field_direction_of, frame_motion_of, field_motion_of};
 
 use forming_predictions::ReferencePlane;
 use inter_reconstruction::frames::{FrameBuffer, FrameGeometry, ReferenceFrame};
@@ -25,7 +25,7 @@ pub const NO_MEANING: u8 = 38;
 
 /// 0, or the number of the refusal.
 fn number_of(answer: MacroblockPrediction) -> u32
-    ensures { result ≡ predictionNumber answer }
+    ensures { result ≡ prediction_number answer }
 {
     match answer {
         MacroblockPrediction::Done(_) => 0,
@@ -37,31 +37,31 @@ fn number_of(answer: MacroblockPrediction) -> u32
 
 /// A presence, and whether what is read where it is 1 has a meaning.
 fn presence_known(present: u32, rest: bool) -> bool
-    ensures { result ≡ presenceKnown present rest }
+    ensures { result ≡ presence_known present rest }
 {
     (present == 0) | ((present == 1) & rest)
 }
 
 /// A presence, with a format that is read where it is 1.
-#[tactic(auto, unfolding(crate::specs::Entries::referenceKnown))]
+#[tactic(auto, unfolding(crate::specs::Entries::reference_known))]
 fn reference_known(present: u32, format: u32) -> bool
-    ensures { result ≡ referenceKnown present format }
+    ensures { result ≡ reference_known present format }
 {
     let kind = ChromaFormat::from_number(format);
     presence_known(present, kind.is_some())
 }
 
 /// A presence, with two fields' parities that are read where it is 1.
-#[tactic(auto, unfolding(crate::specs::Entries::fieldsKnown))]
+#[tactic(auto, unfolding(crate::specs::Entries::fields_known))]
 fn fields_known(present: u32, top_field: u32, bottom_field: u32) -> bool
-    ensures { result ≡ fieldsKnown present top_field bottom_field }
+    ensures { result ≡ fields_known present top_field bottom_field }
 {
     let top = parity_from_number(top_field);
     let bottom = parity_from_number(bottom_field);
     presence_known(present, top.is_some() & bottom.is_some())
 }
 
-#[tactic(auto, unfolding(crate::specs::Entries::frameKnown))]
+#[tactic(auto, unfolding(crate::specs::Entries::frame_known))]
 fn frame_known(
     chroma_format: u32,
     forward_present: u32,
@@ -71,7 +71,7 @@ fn frame_known(
     forward_motion: u32,
     backward_motion: u32,
 ) -> bool
-    ensures { result ≡ frameKnown chroma_format forward_present forward_format backward_present backward_format forward_motion backward_motion }
+    ensures { result ≡ frame_known chroma_format forward_present forward_format backward_present backward_format forward_motion backward_motion }
 {
     let kind = ChromaFormat::from_number(chroma_format);
     let forward = flag_from_number(forward_motion);
@@ -82,7 +82,7 @@ fn frame_known(
                 & (forward.is_some() & backward.is_some())))
 }
 
-#[tactic(auto, unfolding(crate::specs::Entries::fieldKnown))]
+#[tactic(auto, unfolding(crate::specs::Entries::field_known))]
 fn field_known(
     chroma_format: u32,
     forward_present: u32,
@@ -96,7 +96,7 @@ fn field_known(
     backward_top_field: u32,
     backward_bottom_field: u32,
 ) -> bool
-    ensures { result ≡ fieldKnown chroma_format forward_present forward_format backward_present backward_format forward_motion forward_top_field forward_bottom_field backward_motion backward_top_field backward_bottom_field }
+    ensures { result ≡ field_known chroma_format forward_present forward_format backward_present backward_format forward_motion forward_top_field forward_bottom_field backward_motion backward_top_field backward_bottom_field }
 {
     let kind = ChromaFormat::from_number(chroma_format);
     let forward = fields_known(forward_motion, forward_top_field, forward_bottom_field);
@@ -116,9 +116,9 @@ pub fn is_yes(number: u32) -> bool
     flag.or_first()
 }
 
-#[tactic(auto, unfolding(crate::specs::Entries::geometryOf))]
+#[tactic(auto, unfolding(crate::specs::Entries::geometry_of))]
 fn geometry_of(width: usize, height: usize, chroma_format: u32) -> FrameGeometry
-    ensures { result ≡ geometryOf width height chroma_format }
+    ensures { result ≡ geometry_of width height chroma_format }
 {
     let kind = ChromaFormat::from_number(chroma_format);
     FrameGeometry {
@@ -128,7 +128,7 @@ fn geometry_of(width: usize, height: usize, chroma_format: u32) -> FrameGeometry
     }
 }
 
-#[tactic(auto, unfolding(crate::specs::Entries::referenceOf))]
+#[tactic(auto, unfolding(crate::specs::Entries::reference_of))]
 fn reference_of(
     present: u32,
     width: usize,
@@ -141,7 +141,7 @@ fn reference_of(
     cr_width: usize,
     cr_height: usize,
 ) -> ReferenceFrame
-    ensures { result ≡ referenceOf present width height format y_width y_height cb_width cb_height cr_width cr_height }
+    ensures { result ≡ reference_of present width height format y_width y_height cb_width cb_height cr_width cr_height }
 {
     if !is_yes(present) {
         return ReferenceFrame::Absent;
@@ -163,9 +163,9 @@ fn reference_of(
     })
 }
 
-#[tactic(auto, unfolding(crate::specs::Entries::frameDirectionOf))]
+#[tactic(auto, unfolding(crate::specs::Entries::frame_direction_of))]
 fn frame_direction_of(present: u32, horizontal: i32, vertical: i32) -> FrameDirection
-    ensures { result ≡ frameDirectionOf present horizontal vertical }
+    ensures { result ≡ frame_direction_of present horizontal vertical }
 {
     if !is_yes(present) {
         return FrameDirection::Absent;
@@ -176,9 +176,9 @@ fn frame_direction_of(present: u32, horizontal: i32, vertical: i32) -> FrameDire
     })
 }
 
-#[tactic(auto, unfolding(crate::specs::Entries::fieldVectorOf))]
+#[tactic(auto, unfolding(crate::specs::Entries::field_vector_of))]
 fn field_vector_of(field: u32, horizontal: i32, vertical: i32) -> FieldVector
-    ensures { result ≡ fieldVectorOf field horizontal vertical }
+    ensures { result ≡ field_vector_of field horizontal vertical }
 {
     let parity = parity_from_number(field);
     FieldVector {
@@ -190,7 +190,7 @@ fn field_vector_of(field: u32, horizontal: i32, vertical: i32) -> FieldVector
     }
 }
 
-#[tactic(auto, unfolding(crate::specs::Entries::fieldDirectionOf))]
+#[tactic(auto, unfolding(crate::specs::Entries::field_direction_of))]
 fn field_direction_of(
     present: u32,
     top_field: u32,
@@ -200,7 +200,7 @@ fn field_direction_of(
     bottom_horizontal: i32,
     bottom_vertical: i32,
 ) -> FieldDirection
-    ensures { result ≡ fieldDirectionOf present top_field top_horizontal top_vertical bottom_field bottom_horizontal bottom_vertical }
+    ensures { result ≡ field_direction_of present top_field top_horizontal top_vertical bottom_field bottom_horizontal bottom_vertical }
 {
     if !is_yes(present) {
         return FieldDirection::Absent;
@@ -254,25 +254,25 @@ pub fn fozdrik_predict_frame_macroblock(
     backward_vertical: i32,
     out: &mut [u8],
 ) -> u32
-    ensures number { let known = frameKnown chroma_format forward_present forward_format backward_present backward_format forward_motion backward_motion in
-        let dest = geometryOf width height chroma_format in
-        let forward = referenceOf forward_present forward_width forward_height forward_format forward_y_width forward_y_height forward_cb_width forward_cb_height forward_cr_width forward_cr_height in
-        let backward = referenceOf backward_present backward_width backward_height backward_format backward_y_width backward_y_height backward_cb_width backward_cb_height backward_cr_width backward_cr_height in
-        let forward_lengths = lengthsOf (samplesOf forward_y.now forward_cb.now forward_cr.now) in
-        let backward_lengths = lengthsOf (samplesOf backward_y.now backward_cb.now backward_cr.now) in
-        let motion = frameMotionOf forward_motion forward_horizontal forward_vertical backward_motion backward_horizontal backward_vertical in
-        let used = frameUses motion (isPresent forward) (isPresent backward) in
-        let refusal = predictionRefusal dest (length out.old) forward forward_lengths backward backward_lengths used mb_col mb_row in
-        result ≡ or_else (unknownRefusal known) refusal }
-    ensures buffer { let dest = geometryOf width height chroma_format in
-        let forward = referenceOf forward_present forward_width forward_height forward_format forward_y_width forward_y_height forward_cb_width forward_cb_height forward_cr_width forward_cr_height in
-        let backward = referenceOf backward_present backward_width backward_height backward_format backward_y_width backward_y_height backward_cb_width backward_cb_height backward_cr_width backward_cr_height in
-        let motion = frameMotionOf forward_motion forward_horizontal forward_vertical backward_motion backward_horizontal backward_vertical in
-        let used = frameUses motion (isPresent forward) (isPresent backward) in
-        let forward_read = readReference forward (samplesOf forward_y.now forward_cb.now forward_cr.now) in
-        let backward_read = readReference backward (samplesOf backward_y.now backward_cb.now backward_cr.now) in
+    ensures number { let known = frame_known chroma_format forward_present forward_format backward_present backward_format forward_motion backward_motion in
+        let dest = geometry_of width height chroma_format in
+        let forward = reference_of forward_present forward_width forward_height forward_format forward_y_width forward_y_height forward_cb_width forward_cb_height forward_cr_width forward_cr_height in
+        let backward = reference_of backward_present backward_width backward_height backward_format backward_y_width backward_y_height backward_cb_width backward_cb_height backward_cr_width backward_cr_height in
+        let forward_lengths = lengths_of (samples_of forward_y.now forward_cb.now forward_cr.now) in
+        let backward_lengths = lengths_of (samples_of backward_y.now backward_cb.now backward_cr.now) in
+        let motion = frame_motion_of forward_motion forward_horizontal forward_vertical backward_motion backward_horizontal backward_vertical in
+        let used = frame_uses motion (is_present forward) (is_present backward) in
+        let refusal = prediction_refusal dest (length out.old) forward forward_lengths backward backward_lengths used mb_col mb_row in
+        result ≡ or_else (unknown_refusal known) refusal }
+    ensures buffer { let dest = geometry_of width height chroma_format in
+        let forward = reference_of forward_present forward_width forward_height forward_format forward_y_width forward_y_height forward_cb_width forward_cb_height forward_cr_width forward_cr_height in
+        let backward = reference_of backward_present backward_width backward_height backward_format backward_y_width backward_y_height backward_cb_width backward_cb_height backward_cr_width backward_cr_height in
+        let motion = frame_motion_of forward_motion forward_horizontal forward_vertical backward_motion backward_horizontal backward_vertical in
+        let used = frame_uses motion (is_present forward) (is_present backward) in
+        let forward_read = read_reference forward (samples_of forward_y.now forward_cb.now forward_cr.now) in
+        let backward_read = read_reference backward (samples_of backward_y.now backward_cb.now backward_cr.now) in
         let prediction = predicted rounded dest.chroma_format forward_read backward_read used mb_col mb_row in
-        out.new ≡ unlessRefused result prediction out.old }
+        out.new ≡ unless_refused result prediction out.old }
 {
     if !frame_known(
         chroma_format,
@@ -376,29 +376,29 @@ pub fn fozdrik_predict_field_macroblock(
     backward_bottom_vertical: i32,
     out: &mut [u8],
 ) -> u32
-    ensures number { let known = fieldKnown chroma_format forward_present forward_format backward_present backward_format forward_motion forward_top_field forward_bottom_field backward_motion backward_top_field backward_bottom_field in
-        let dest = geometryOf width height chroma_format in
-        let forward = referenceOf forward_present forward_width forward_height forward_format forward_y_width forward_y_height forward_cb_width forward_cb_height forward_cr_width forward_cr_height in
-        let backward = referenceOf backward_present backward_width backward_height backward_format backward_y_width backward_y_height backward_cb_width backward_cb_height backward_cr_width backward_cr_height in
-        let forward_lengths = lengthsOf (samplesOf forward_y.now forward_cb.now forward_cr.now) in
-        let backward_lengths = lengthsOf (samplesOf backward_y.now backward_cb.now backward_cr.now) in
-        let motion = fieldMotionOf
+    ensures number { let known = field_known chroma_format forward_present forward_format backward_present backward_format forward_motion forward_top_field forward_bottom_field backward_motion backward_top_field backward_bottom_field in
+        let dest = geometry_of width height chroma_format in
+        let forward = reference_of forward_present forward_width forward_height forward_format forward_y_width forward_y_height forward_cb_width forward_cb_height forward_cr_width forward_cr_height in
+        let backward = reference_of backward_present backward_width backward_height backward_format backward_y_width backward_y_height backward_cb_width backward_cb_height backward_cr_width backward_cr_height in
+        let forward_lengths = lengths_of (samples_of forward_y.now forward_cb.now forward_cr.now) in
+        let backward_lengths = lengths_of (samples_of backward_y.now backward_cb.now backward_cr.now) in
+        let motion = field_motion_of
         forward_motion forward_top_field forward_top_horizontal forward_top_vertical forward_bottom_field forward_bottom_horizontal forward_bottom_vertical
         backward_motion backward_top_field backward_top_horizontal backward_top_vertical backward_bottom_field backward_bottom_horizontal backward_bottom_vertical in
-        let used = fieldUses motion (isPresent forward) (isPresent backward) in
-        let refusal = predictionRefusal dest (length out.old) forward forward_lengths backward backward_lengths used mb_col mb_row in
-        result ≡ or_else (unknownRefusal known) refusal }
-    ensures buffer { let dest = geometryOf width height chroma_format in
-        let forward = referenceOf forward_present forward_width forward_height forward_format forward_y_width forward_y_height forward_cb_width forward_cb_height forward_cr_width forward_cr_height in
-        let backward = referenceOf backward_present backward_width backward_height backward_format backward_y_width backward_y_height backward_cb_width backward_cb_height backward_cr_width backward_cr_height in
-        let motion = fieldMotionOf
+        let used = field_uses motion (is_present forward) (is_present backward) in
+        let refusal = prediction_refusal dest (length out.old) forward forward_lengths backward backward_lengths used mb_col mb_row in
+        result ≡ or_else (unknown_refusal known) refusal }
+    ensures buffer { let dest = geometry_of width height chroma_format in
+        let forward = reference_of forward_present forward_width forward_height forward_format forward_y_width forward_y_height forward_cb_width forward_cb_height forward_cr_width forward_cr_height in
+        let backward = reference_of backward_present backward_width backward_height backward_format backward_y_width backward_y_height backward_cb_width backward_cb_height backward_cr_width backward_cr_height in
+        let motion = field_motion_of
         forward_motion forward_top_field forward_top_horizontal forward_top_vertical forward_bottom_field forward_bottom_horizontal forward_bottom_vertical
         backward_motion backward_top_field backward_top_horizontal backward_top_vertical backward_bottom_field backward_bottom_horizontal backward_bottom_vertical in
-        let used = fieldUses motion (isPresent forward) (isPresent backward) in
-        let forward_read = readReference forward (samplesOf forward_y.now forward_cb.now forward_cr.now) in
-        let backward_read = readReference backward (samplesOf backward_y.now backward_cb.now backward_cr.now) in
+        let used = field_uses motion (is_present forward) (is_present backward) in
+        let forward_read = read_reference forward (samples_of forward_y.now forward_cb.now forward_cr.now) in
+        let backward_read = read_reference backward (samples_of backward_y.now backward_cb.now backward_cr.now) in
         let prediction = predicted rounded dest.chroma_format forward_read backward_read used mb_col mb_row in
-        out.new ≡ unlessRefused result prediction out.old }
+        out.new ≡ unless_refused result prediction out.old }
 {
     if !field_known(
         chroma_format,

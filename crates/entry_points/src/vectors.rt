@@ -1,12 +1,12 @@
 //! The card's C entry points for vectors and predictors, on numbers and bytes.
 ghost use Rattle.std.specs.Prelude.{◌≡◌, cond, ◌++◌, [], ◌∷◌, ◌+◌, ◌<◌, ◌≤◌, length};
-ghost use Rattle.combine_predictions.specs.Refusals.{or_else, unlessRefused};
+ghost use Rattle.combine_predictions.specs.Refusals.{or_else, unless_refused};
 ghost use Rattle.pmv.specs.Predictors.{pair_of};
-ghost use Rattle.pmv.specs.Update.{updateRefusal, updateOutcome, outcomeNumber, updated};
-ghost use Rattle.pmv.specs.Answers.{vectorNumber, updateNumber};
-ghost use Rattle.entry_points.specs.Layout.{word_of, signed_of, bytes_of, number_at, pairBytes, predictorsOf, predictorBytes, withPair};
-ghost use Rattle.entry_points.specs.Entries.{unknownRefusal, residualOf, type_of, vectorKnown, updateKnown, indexOf, directionOf, format_of, structureOf, motionVectorOf, context_of, vectorFrom, vectorBytes};
-ghost use Rattle.entry_points.specs.inner.Outcomes.{outcomeByte};
+ghost use Rattle.pmv.specs.Update.{update_refusal, update_outcome, outcome_number, updated};
+ghost use Rattle.pmv.specs.Answers.{vector_number, update_number};
+ghost use Rattle.entry_points.specs.Layout.{word_of, signed_of, bytes_of, number_at, pair_bytes, predictors_of, predictor_bytes, with_pair};
+ghost use Rattle.entry_points.specs.Entries.{unknown_refusal, residual_of, type_of, vector_known, update_known, index_of, direction_of, format_of, structure_of, motion_vector_of, context_of, vector_from, vector_bytes};
+ghost use Rattle.entry_points.specs.inner.Outcomes.{outcome_byte};
 
 use crate::prediction::{NO_MEANING, is_yes};
 use pmv::component::MotionResidual;
@@ -75,7 +75,7 @@ fn store(v: i32, out: &mut [u8])
 /// PMV\[r\]\[s\]\[1:0\] in the 32 bytes of the predictors.
 fn load_pair(bytes: &[u8], r: VectorIndex, s: Direction) -> PredictorPair
     requires { length bytes.now ≡ 32 }
-    ensures { result ≡ pair_of (predictorsOf bytes.now) r s }
+    ensures { result ≡ pair_of (predictors_of bytes.now) r s }
 {
     let k = 4 * place_of(r, s, Component::Horizontal);
     PredictorPair {
@@ -87,7 +87,7 @@ fn load_pair(bytes: &[u8], r: VectorIndex, s: Direction) -> PredictorPair
 /// All predictors.
 fn load_predictors(bytes: &[u8]) -> Pmv
     requires { length bytes.now ≡ 32 }
-    ensures { result ≡ predictorsOf bytes.now }
+    ensures { result ≡ predictors_of bytes.now }
 {
     Pmv {
         values: [
@@ -106,7 +106,7 @@ fn load_predictors(bytes: &[u8]) -> Pmv
 /// Two numbers into eight bytes.
 fn store_pair(horizontal: i32, vertical: i32, out: &mut [u8])
     requires { length out.old ≡ 8 }
-    ensures { out.new ≡ pairBytes horizontal vertical }
+    ensures { out.new ≡ pair_bytes horizontal vertical }
 {
     store(horizontal, &mut out[0..4]);
     store(vertical, &mut out[4..8]);
@@ -115,7 +115,7 @@ fn store_pair(horizontal: i32, vertical: i32, out: &mut [u8])
 /// PMV\[r\]\[s\]\[1:0\] replaced in the 32 bytes of the predictors.
 fn replace_pair(pair: PredictorPair, r: VectorIndex, s: Direction, out: &mut [u8])
     requires { length out.old ≡ 32 }
-    ensures { out.new ≡ withPair out.old r s pair }
+    ensures { out.new ≡ with_pair out.old r s pair }
 {
     let k = 4 * place_of(r, s, Component::Horizontal);
     let e = k + 8;
@@ -125,7 +125,7 @@ fn replace_pair(pair: PredictorPair, r: VectorIndex, s: Direction, out: &mut [u8
 /// Four numbers into sixteen bytes.
 fn store_four(a: i32, b: i32, c: i32, d: i32, out: &mut [u8])
     requires { length out.old ≡ 16 }
-    ensures { out.new ≡ pairBytes a b ++ pairBytes c d }
+    ensures { out.new ≡ pair_bytes a b ++ pair_bytes c d }
 {
     store_pair(a, b, &mut out[0..8]);
     store_pair(c, d, &mut out[8..16]);
@@ -134,7 +134,7 @@ fn store_four(a: i32, b: i32, c: i32, d: i32, out: &mut [u8])
 /// All predictors into 32 bytes.
 fn store_predictors(p: Pmv, out: &mut [u8])
     requires { length out.old ≡ 32 }
-    ensures { out.new ≡ predictorBytes p }
+    ensures { out.new ≡ predictor_bytes p }
 {
     let v = p.values;
     store_four(v[0], v[1], v[2], v[3], &mut out[0..16]);
@@ -143,9 +143,9 @@ fn store_predictors(p: Pmv, out: &mut [u8])
 
 // ---- what the numbers mean, and whether those that are read have a meaning
 
-#[tactic(auto, unfolding(crate::specs::Entries::residualOf))]
+#[tactic(auto, unfolding(crate::specs::Entries::residual_of))]
 fn residual_of(present: u32, residual: u8) -> MotionResidual
-    ensures { result ≡ residualOf present residual }
+    ensures { result ≡ residual_of present residual }
 {
     if !is_yes(present) {
         return MotionResidual::Absent;
@@ -165,7 +165,7 @@ fn type_of(present: u32, number: u32) -> MotionType
 }
 
 /// Whether the numbers that a vector is read with have a meaning, and the buffers their lengths.
-#[tactic(auto, unfolding(crate::specs::Entries::vectorKnown))]
+#[tactic(auto, unfolding(crate::specs::Entries::vector_known))]
 fn vector_known(
     r: u32,
     s: u32,
@@ -176,7 +176,7 @@ fn vector_known(
     predictors: usize,
     vector: usize,
 ) -> bool
-    ensures { result ≡ vectorKnown r s horiz_present vert_present mv_format picture_structure predictors vector }
+    ensures { result ≡ vector_known r s horiz_present vert_present mv_format picture_structure predictors vector }
 {
     let index = VectorIndex::from_number(r);
     let direction = Direction::from_number(s);
@@ -189,7 +189,7 @@ fn vector_known(
 }
 
 /// The same for an update. A motion type that is absent is not read.
-#[tactic(auto, unfolding(crate::specs::Entries::updateKnown))]
+#[tactic(auto, unfolding(crate::specs::Entries::update_known))]
 fn update_known(
     picture_structure: u32,
     type_present: u32,
@@ -201,7 +201,7 @@ fn update_known(
     predictors: usize,
     outcome: usize,
 ) -> bool
-    ensures { result ≡ updateKnown picture_structure type_present prediction_type forward backward intra concealment predictors outcome }
+    ensures { result ≡ update_known picture_structure type_present prediction_type forward backward intra concealment predictors outcome }
 {
     let structure = PictureStructure::from_number(picture_structure);
     let kind = PredictionType::from_number(prediction_type);
@@ -219,8 +219,8 @@ fn update_known(
 /// Both components, where the vector is accepted: 0, or the number of the refusal.
 fn store_vector(answer: ReconstructedVector, out: &mut [u8]) -> u32
     requires { length out.old ≡ 8 }
-    ensures number { result ≡ vectorNumber answer }
-    ensures buffer { out.new ≡ vectorBytes answer out.old }
+    ensures number { result ≡ vector_number answer }
+    ensures buffer { out.new ≡ vector_bytes answer out.old }
 {
     match answer {
         ReconstructedVector::Components(c) => {
@@ -246,9 +246,9 @@ fn vector_in_bytes(
     vector: &mut [u8],
 ) -> u32
     requires { (length predictors.old ≡ 32) × (length vector.old ≡ 8) }
-    ensures number { result ≡ vectorNumber (vectorFrom predictors.old r s mv f_code_horiz f_code_vert mv_format picture).answer }
-    ensures predictors { predictors.new ≡ withPair predictors.old r s (vectorFrom predictors.old r s mv f_code_horiz f_code_vert mv_format picture).predictors }
-    ensures vector { vector.new ≡ vectorBytes (vectorFrom predictors.old r s mv f_code_horiz f_code_vert mv_format picture).answer vector.old }
+    ensures number { result ≡ vector_number (vector_from predictors.old r s mv f_code_horiz f_code_vert mv_format picture).answer }
+    ensures predictors { predictors.new ≡ with_pair predictors.old r s (vector_from predictors.old r s mv f_code_horiz f_code_vert mv_format picture).predictors }
+    ensures vector { vector.new ≡ vector_bytes (vector_from predictors.old r s mv f_code_horiz f_code_vert mv_format picture).answer vector.old }
 {
     let decoded = reconstructed_pair(
         load_pair(predictors, r, s),
@@ -266,7 +266,7 @@ fn vector_in_bytes(
 
 /// The byte for the outcome: its number, or what was there where the update is refused.
 fn outcome_byte(answer: Updated, before: u8) -> u8
-    ensures { result ≡ outcomeByte answer before }
+    ensures { result ≡ outcome_byte answer before }
 {
     match answer {
         Updated::Outcome(row) => row.number(),
@@ -276,7 +276,7 @@ fn outcome_byte(answer: Updated, before: u8) -> u8
 
 /// 0, or the number of the refusal.
 fn refusal_of(answer: Updated) -> u32
-    ensures { result ≡ updateNumber answer }
+    ensures { result ≡ update_number answer }
 {
     match answer {
         Updated::Outcome(_) => 0,
@@ -288,9 +288,9 @@ fn refusal_of(answer: Updated) -> u32
 /// the answer.
 fn update_in_bytes(ctx: PmvUpdateContext, predictors: &mut [u8], outcome: &mut [u8]) -> u32
     requires { (length predictors.old ≡ 32) × (length outcome.old ≡ 1) }
-    ensures number { result ≡ updateRefusal ctx }
-    ensures predictors { predictors.new ≡ unlessRefused result (predictorBytes (updated (predictorsOf predictors.old) ctx).pmv) predictors.old }
-    ensures outcome { outcome.new ≡ unlessRefused result (outcomeNumber (updateOutcome ctx) ∷ []) outcome.old }
+    ensures number { result ≡ update_refusal ctx }
+    ensures predictors { predictors.new ≡ unless_refused result (predictor_bytes (updated (predictors_of predictors.old) ctx).pmv) predictors.old }
+    ensures outcome { outcome.new ≡ unless_refused result (outcome_number (update_outcome ctx) ∷ []) outcome.old }
 {
     let update = updated_predictors(load_predictors(predictors), ctx);
     let kept = update.pmv;
@@ -319,18 +319,18 @@ pub fn fozdrik_reconstruct_motion_vector(
     predictors: &mut [u8],
     vector: &mut [u8],
 ) -> u32
-    ensures number { let known = vectorKnown r s motion_residual_horiz_present motion_residual_vert_present mv_format picture_structure (length predictors.old) (length vector.old) in
-        let coded = motionVectorOf motion_code_horiz motion_residual_horiz_present motion_residual_horiz motion_code_vert motion_residual_vert_present motion_residual_vert in
-        let decoded = vectorFrom predictors.old (indexOf r) (directionOf s) coded f_code_horiz f_code_vert (format_of mv_format) (structureOf picture_structure) in
-        result ≡ or_else (unknownRefusal known) (vectorNumber decoded.answer) }
-    ensures predictors { let known = vectorKnown r s motion_residual_horiz_present motion_residual_vert_present mv_format picture_structure (length predictors.old) (length vector.old) in
-        let coded = motionVectorOf motion_code_horiz motion_residual_horiz_present motion_residual_horiz motion_code_vert motion_residual_vert_present motion_residual_vert in
-        let decoded = vectorFrom predictors.old (indexOf r) (directionOf s) coded f_code_horiz f_code_vert (format_of mv_format) (structureOf picture_structure) in
-        predictors.new ≡ cond known (withPair predictors.old (indexOf r) (directionOf s) decoded.predictors) predictors.old }
-    ensures vector { let known = vectorKnown r s motion_residual_horiz_present motion_residual_vert_present mv_format picture_structure (length predictors.old) (length vector.old) in
-        let coded = motionVectorOf motion_code_horiz motion_residual_horiz_present motion_residual_horiz motion_code_vert motion_residual_vert_present motion_residual_vert in
-        let decoded = vectorFrom predictors.old (indexOf r) (directionOf s) coded f_code_horiz f_code_vert (format_of mv_format) (structureOf picture_structure) in
-        vector.new ≡ cond known (vectorBytes decoded.answer vector.old) vector.old }
+    ensures number { let known = vector_known r s motion_residual_horiz_present motion_residual_vert_present mv_format picture_structure (length predictors.old) (length vector.old) in
+        let coded = motion_vector_of motion_code_horiz motion_residual_horiz_present motion_residual_horiz motion_code_vert motion_residual_vert_present motion_residual_vert in
+        let decoded = vector_from predictors.old (index_of r) (direction_of s) coded f_code_horiz f_code_vert (format_of mv_format) (structure_of picture_structure) in
+        result ≡ or_else (unknown_refusal known) (vector_number decoded.answer) }
+    ensures predictors { let known = vector_known r s motion_residual_horiz_present motion_residual_vert_present mv_format picture_structure (length predictors.old) (length vector.old) in
+        let coded = motion_vector_of motion_code_horiz motion_residual_horiz_present motion_residual_horiz motion_code_vert motion_residual_vert_present motion_residual_vert in
+        let decoded = vector_from predictors.old (index_of r) (direction_of s) coded f_code_horiz f_code_vert (format_of mv_format) (structure_of picture_structure) in
+        predictors.new ≡ cond known (with_pair predictors.old (index_of r) (direction_of s) decoded.predictors) predictors.old }
+    ensures vector { let known = vector_known r s motion_residual_horiz_present motion_residual_vert_present mv_format picture_structure (length predictors.old) (length vector.old) in
+        let coded = motion_vector_of motion_code_horiz motion_residual_horiz_present motion_residual_horiz motion_code_vert motion_residual_vert_present motion_residual_vert in
+        let decoded = vector_from predictors.old (index_of r) (direction_of s) coded f_code_horiz f_code_vert (format_of mv_format) (structure_of picture_structure) in
+        vector.new ≡ cond known (vector_bytes decoded.answer vector.old) vector.old }
 {
     if !vector_known(
         r,
@@ -381,13 +381,13 @@ pub fn fozdrik_update_predictors(
     predictors: &mut [u8],
     outcome: &mut [u8],
 ) -> u32
-    ensures number { let known = updateKnown picture_structure prediction_type_present prediction_type macroblock_motion_forward macroblock_motion_backward macroblock_intra concealment_motion_vectors (length predictors.old) (length outcome.old) in
+    ensures number { let known = update_known picture_structure prediction_type_present prediction_type macroblock_motion_forward macroblock_motion_backward macroblock_intra concealment_motion_vectors (length predictors.old) (length outcome.old) in
         let context = context_of picture_structure prediction_type_present prediction_type macroblock_motion_forward macroblock_motion_backward macroblock_intra concealment_motion_vectors in
-        result ≡ or_else (unknownRefusal known) (updateRefusal context) }
+        result ≡ or_else (unknown_refusal known) (update_refusal context) }
     ensures predictors { let context = context_of picture_structure prediction_type_present prediction_type macroblock_motion_forward macroblock_motion_backward macroblock_intra concealment_motion_vectors in
-        predictors.new ≡ unlessRefused result (predictorBytes (updated (predictorsOf predictors.old) context).pmv) predictors.old }
+        predictors.new ≡ unless_refused result (predictor_bytes (updated (predictors_of predictors.old) context).pmv) predictors.old }
     ensures outcome { let context = context_of picture_structure prediction_type_present prediction_type macroblock_motion_forward macroblock_motion_backward macroblock_intra concealment_motion_vectors in
-        outcome.new ≡ unlessRefused result (outcomeNumber (updateOutcome context) ∷ []) outcome.old }
+        outcome.new ≡ unless_refused result (outcome_number (update_outcome context) ∷ []) outcome.old }
 {
     if !update_known(
         picture_structure,

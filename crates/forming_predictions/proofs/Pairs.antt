@@ -9,8 +9,8 @@ use Rattle.combine_predictions.specs.Averaging.{mean2}
 use Rattle.forming_predictions.specs.Means.{mean4}
 
 -- ---- the lowest bit
-low-xor : (x y : ℕ) → bit_xor x y % 2 ≡ (x + y) % 2
-low-xor x y = omega (arith, xor_add_and x y)
+low_xor : (x y : ℕ) → bit_xor x y % 2 ≡ (x + y) % 2
+low_xor x y = omega (arith, xor_add_and x y)
 
 low_or : (x y : ℕ) → bit_or x y % 2 ≡ max (x % 2) (y % 2)
 low_or x y =
@@ -37,11 +37,11 @@ module _ (a b c d : ℕ) where
   excess = bit_and (bit_and (bit_or (bit_xor a b) (bit_xor c d)) (bit_xor upper lower)) 1
 
   -- by whether the pairs' sums, and that of their means, are odd
-  excess-is : excess ≡ min (max ((a + b) % 2) ((c + d) % 2)) ((upper + lower) % 2)
-  excess-is =
+  excess_is : excess ≡ min (max ((a + b) % 2) ((c + d) % 2)) ((upper + lower) % 2)
+  excess_is =
       and_mask (bit_and (bit_or (bit_xor a b) (bit_xor c d)) (bit_xor upper lower)) 1
       ∙ low_and (bit_or (bit_xor a b) (bit_xor c d)) (bit_xor upper lower)
-      ∙ rw (low_or (bit_xor a b) (bit_xor c d), low-xor a b, low-xor c d, low-xor upper lower)
+      ∙ rw (low_or (bit_xor a b) (bit_xor c d), low_xor a b, low_xor c d, low_xor upper lower)
 
   taken : (i j l : ℕ) → i < 2 → j < 2 → l < 2
       → a + b + i ≡ upper * 2 → c + d + j ≡ lower * 2 → upper + lower + l ≡ mean2 upper lower * 2
@@ -67,5 +67,5 @@ module _ (a b c d : ℕ) where
   right =
       taken ((a + b) % 2) ((c + d) % 2) ((upper + lower) % 2) (omega arith) (omega arith) (omega arith) (twice a b) (twice c d) (twice upper lower)
 
-  pub of-pairs : mean2 upper lower - excess ≡ mean4 a b c d
-  of-pairs = rw excess-is right.1
+  pub of_pairs : mean2 upper lower - excess ≡ mean4 a b c d
+  of_pairs = rw excess_is right.1

@@ -9,47 +9,47 @@ use Rattle.laws.proofs.Signed.{zp, zn}
 use Rattle.laws.proofs.Bits.{back}
 use Rattle.forming_predictions.specs.declared.Rows.{Rows}
 use Rattle.forming_predictions.specs.declared.Sampled.{Sampled}
-use Rattle.forming_predictions.specs.Lines.{Lines, clampTo, sampleAt}
+use Rattle.forming_predictions.specs.Lines.{Lines, clamp_to, sample_at}
 use Rattle.forming_predictions.specs.Means.{rounded}
 use Rattle.forming_predictions.specs.Forming.{formed}
-use Rattle.forming_predictions.specs.Refusals.{planeRefusal, sampleRefusal}
-use Rattle.forming_predictions.specs.SampleAnswers.{sampleAnswer}
-use Rattle.forming_predictions.specs.inner.Views.{lineStart, insideOf, ReadsAs, rowsSample}
-use Rattle.forming_predictions.proofs.Views.{rows-sample}
-use Rattle.forming_predictions.proofs.Forming.{lines-formed}
-use Rattle.forming_predictions.proofs.Blocks.{inside-yes}
+use Rattle.forming_predictions.specs.Refusals.{plane_refusal, sample_refusal}
+use Rattle.forming_predictions.specs.SampleAnswers.{sample_answer}
+use Rattle.forming_predictions.specs.inner.Views.{line_start, inside_of, ReadsAs, rows_sample}
+use Rattle.forming_predictions.proofs.Views.{rows_sample_lem}
+use Rattle.forming_predictions.proofs.Forming.{lines_formed}
+use Rattle.forming_predictions.proofs.Blocks.{inside_yes}
 
 -- a clamped coordinate
-pub at_line : (count : ℕ) {r : ℕ} {y : ℤ} → SFits w32 y → r ≡ clampTo count (to_z w32 (of_z w32 y)) → r ≡ clampTo count y
+pub at_line : (count : ℕ) {r : ℕ} {y : ℤ} → SFits w32 y → r ≡ clamp_to count (to_z w32 (of_z w32 y)) → r ≡ clamp_to count y
 at_line count f e = rw (to_z-of_z f) at e
 
 -- the place of a clamped line's first sample
-pub at_start : (first step w count : ℕ) {r a : ℕ} {y : ℤ} → SFits w32 y → r ≡ clampTo count (to_z w32 (of_z w32 y)) → a ≡ lineStart first step w r
-    → a ≡ lineStart first step w (clampTo count y)
-at_start first step w count f e p = p ∙ ap (lineStart first step w) (at_line count f e)
+pub at_start : (first step w count : ℕ) {r a : ℕ} {y : ℤ} → SFits w32 y → r ≡ clamp_to count (to_z w32 (of_z w32 y)) → a ≡ line_start first step w r
+    → a ≡ line_start first step w (clamp_to count y)
+at_start first step w count f e p = p ∙ ap (line_start first step w) (at_line count f e)
 
 -- a coordinate that was moved on
 pub at_shifted : (n : ℕ) {s z : ℤ} → SFits w32 z → mag s < 2147483648 → s ≡ to_z w32 (of_z w32 z) +ℤ pos n → to_z w32 (of_z w32 s) ≡ z +ℤ pos n
 at_shifted n {s} f m e = back w32 s m ∙ (rw (to_z-of_z f) at e)
 
 -- what a test that a block lies inside says of a position
-pub inside_at : (n limit : ℕ) {b : Bool} {z : ℤ} → SFits w32 z → b ≡ insideOf (to_z w32 (of_z w32 z)) n limit → b ≡ true → (zn z ≡ 0) × (zp z + n ≤ limit)
-inside_at n limit {z = z} f e t = inside-yes z n limit (sym (rw (to_z-of_z f) at e) ∙ t)
+pub inside_at : (n limit : ℕ) {b : Bool} {z : ℤ} → SFits w32 z → b ≡ inside_of (to_z w32 (of_z w32 z)) n limit → b ≡ true → (zn z ≡ 0) × (zp z + n ≤ limit)
+inside_at n limit {z = z} f e t = inside_yes z n limit (sym (rw (to_z-of_z f) at e) ∙ t)
 
 -- what the calls answer for the rows of lines that are read, in terms of the lines
 pub sampled_lines : {r : Rows} {s : Sampled} (l : Lines) (w h : ℕ) (samples : List ℕ) (x y : ℤ) → SFits w32 x → SFits w32 y → ReadsAs l h r
-    → s ≡ sampleAnswer (planeRefusal w h (length samples)) (rowsSample r w h samples (to_z w32 (of_z w32 x)) (to_z w32 (of_z w32 y)))
-    → s ≡ sampleAnswer (planeRefusal w h (length samples)) (sampleAt l w h samples x y)
+    → s ≡ sample_answer (plane_refusal w h (length samples)) (rows_sample r w h samples (to_z w32 (of_z w32 x)) (to_z w32 (of_z w32 y)))
+    → s ≡ sample_answer (plane_refusal w h (length samples)) (sample_at l w h samples x y)
 sampled_lines {r} l w h samples x y f g reads e =
     (rw (to_z-of_z f, to_z-of_z g) at e)
-    ∙ ap (λ (k : ℕ). sampleAnswer (planeRefusal w h (length samples)) k) (rows-sample l h r reads w samples x y)
+    ∙ ap (λ (k : ℕ). sample_answer (plane_refusal w h (length samples)) k) (rows_sample_lem l h r reads w samples x y)
 
 pub formed_lines : {r : Rows} {s : Sampled} (l : Lines) (w h : ℕ) (samples : List ℕ) (x y u v : ℤ)
     → SFits w32 x → SFits w32 y → SFits w32 u → SFits w32 v → ReadsAs l h r
     → s
-    ≡ sampleAnswer (sampleRefusal w h (length samples) (to_z w32 (of_z w32 x)) (to_z w32 (of_z w32 y)))
-    (formed rounded (rowsSample r w h samples) (to_z w32 (of_z w32 x)) (to_z w32 (of_z w32 y)) (to_z w32 (of_z w32 u)) (to_z w32 (of_z w32 v)))
-    → s ≡ sampleAnswer (sampleRefusal w h (length samples) x y) (formed rounded (sampleAt l w h samples) x y u v)
+    ≡ sample_answer (sample_refusal w h (length samples) (to_z w32 (of_z w32 x)) (to_z w32 (of_z w32 y)))
+    (formed rounded (rows_sample r w h samples) (to_z w32 (of_z w32 x)) (to_z w32 (of_z w32 y)) (to_z w32 (of_z w32 u)) (to_z w32 (of_z w32 v)))
+    → s ≡ sample_answer (sample_refusal w h (length samples) x y) (formed rounded (sample_at l w h samples) x y u v)
 formed_lines l w h samples x y u v f g i j reads e =
     (rw (to_z-of_z f, to_z-of_z g, to_z-of_z i, to_z-of_z j) at e)
-    ∙ ap (λ (k : ℕ). sampleAnswer (sampleRefusal w h (length samples) x y) k) (lines-formed reads w samples x y u v)
+    ∙ ap (λ (k : ℕ). sample_answer (sample_refusal w h (length samples) x y) k) (lines_formed reads w samples x y u v)

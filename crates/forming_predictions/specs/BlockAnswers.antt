@@ -3,11 +3,11 @@ use Rattle.std.specs.Prelude.{ℕ, zero, suc}
 use Rattle.forming_predictions.specs.declared.Predicted.{Predicted}
 use Rattle.forming_predictions.specs.declared.Predicted.TheVariants.{Done, Refused}
 
-abbrev pub blockNumber : Predicted → ℕ
-blockNumber Done = 0
-blockNumber (Refused n) = n
+abbrev pub block_number : Predicted → ℕ
+block_number Done = 0
+block_number (Refused n) = n
 
 -- the answer with this number
-abbrev pub blockAnswer : ℕ → Predicted
-blockAnswer zero = Done
-blockAnswer (suc n) = Refused (suc n)
+abbrev pub block_answer : ℕ → Predicted
+block_answer zero = Done
+block_answer (suc n) = Refused (suc n)

@@ -2,56 +2,56 @@
 -- before 18. The limits are those of its section "The domain". Nothing here is the standard's.
 use Rattle.std.specs.Prelude.{Bool, not, ◌&&◌, ℕ, ◌*◌, leb, eqb, ℤ, pos, negsuc}
 use Rattle.std.specs.Int.Signed.{le_z}
-use Rattle.combine_predictions.specs.Refusals.{wrongLength, cause, or_else}
+use Rattle.combine_predictions.specs.Refusals.{wrong_length, cause, or_else}
 
 -- a plane's length is not width times height, or a side or a position is outside the domain
-abbrev pub outsideDomain : ℕ
-outsideDomain = 14
+abbrev pub outside_domain : ℕ
+outside_domain = 14
 
 -- a plane's side: 0 to 16,384
-abbrev pub sideFits : ℕ → Bool
-sideFits side = leb side 16384
+abbrev pub side_fits : ℕ → Bool
+side_fits side = leb side 16384
 
 -- a plane's samples are as many as its sides say
-abbrev pub countFits : ℕ → ℕ → ℕ → Bool
-countFits w h n = eqb n (w * h)
+abbrev pub count_fits : ℕ → ℕ → ℕ → Bool
+count_fits w h n = eqb n (w * h)
 
 -- a plane of w columns and h rows, with n samples
-unfoldable pub planeFits : ℕ → ℕ → ℕ → Bool
-planeFits w h n = sideFits w && (sideFits h && countFits w h n)
+unfoldable pub plane_fits : ℕ → ℕ → ℕ → Bool
+plane_fits w h n = side_fits w && (side_fits h && count_fits w h n)
 
 -- a position: -32,768 to `last`
-unfoldable pub positionFits : ℤ → ℤ → Bool
-positionFits last position = le_z (negsuc 32767) position && le_z position last
+unfoldable pub position_fits : ℤ → ℤ → Bool
+position_fits last position = le_z (negsuc 32767) position && le_z position last
 
 -- where a single sample may be predicted: the last sample of a block that starts at the last position is 15 further
-abbrev pub lastSample : ℤ
-lastSample = pos 32782
+abbrev pub last_sample : ℤ
+last_sample = pos 32782
 
 -- where a block may start
-abbrev pub lastBlock : ℤ
-lastBlock = pos 32767
+abbrev pub last_block : ℤ
+last_block = pos 32767
 
 -- a block's side: 1 to 16
-unfoldable pub blockSideFits : ℕ → Bool
-blockSideFits side = leb 1 side && leb side 16
+unfoldable pub block_side_fits : ℕ → Bool
+block_side_fits side = leb 1 side && leb side 16
 
 -- `sample`: no position is refused
-abbrev pub planeRefusal : ℕ → ℕ → ℕ → ℕ
-planeRefusal w h n = cause (not (planeFits w h n)) outsideDomain
+abbrev pub plane_refusal : ℕ → ℕ → ℕ → ℕ
+plane_refusal w h n = cause (not (plane_fits w h n)) outside_domain
 
 -- both coordinates of a position
-abbrev pub positionRefusal : ℤ → ℤ → ℤ → ℕ
-positionRefusal last x y = cause (not (positionFits last x && positionFits last y)) outsideDomain
+abbrev pub position_refusal : ℤ → ℤ → ℤ → ℕ
+position_refusal last x y = cause (not (position_fits last x && position_fits last y)) outside_domain
 
 -- `predict_sample`, `predict_field_sample`
-unfoldable pub sampleRefusal : ℕ → ℕ → ℕ → ℤ → ℤ → ℕ
-sampleRefusal w h n x y = or_else (planeRefusal w h n) (positionRefusal lastSample x y)
+unfoldable pub sample_refusal : ℕ → ℕ → ℕ → ℤ → ℤ → ℕ
+sample_refusal w h n x y = or_else (plane_refusal w h n) (position_refusal last_sample x y)
 
 -- `predict_block`, `predict_field_block`: a block of bw columns and bh rows into a buffer of o bytes
-unfoldable pub blockRefusal : ℕ → ℕ → ℕ → ℤ → ℤ → ℕ → ℕ → ℕ → ℕ
-blockRefusal w h n x y bw bh o =
-    or_else (planeRefusal w h n)
-    (or_else (cause (not (blockSideFits bw && blockSideFits bh)) outsideDomain)
-    (or_else (positionRefusal lastBlock x y)
-    (cause (not (eqb o (bw * bh))) wrongLength)))
+unfoldable pub block_refusal : ℕ → ℕ → ℕ → ℤ → ℤ → ℕ → ℕ → ℕ → ℕ
+block_refusal w h n x y bw bh o =
+    or_else (plane_refusal w h n)
+    (or_else (cause (not (block_side_fits bw && block_side_fits bh)) outside_domain)
+    (or_else (position_refusal last_block x y)
+    (cause (not (eqb o (bw * bh))) wrong_length)))

@@ -5,20 +5,20 @@ use Rattle.std.specs.Prelude.{ℕ, zero, suc}
 use Rattle.forming_predictions.specs.declared.Sampled.{Sampled}
 use Rattle.forming_predictions.specs.declared.Sampled.TheVariants.{Sample, Refused}
 
-abbrev pub sampleNumber : Sampled → ℕ
-sampleNumber (Sample v) = 0
-sampleNumber (Refused n) = n
+abbrev pub sample_number : Sampled → ℕ
+sample_number (Sample v) = 0
+sample_number (Refused n) = n
 
-abbrev pub sampleValue : Sampled → Option ℕ
-sampleValue (Sample v) = some v
-sampleValue (Refused n) = none
+abbrev pub sample_value : Sampled → Option ℕ
+sample_value (Sample v) = some v
+sample_value (Refused n) = none
 
 -- the value of an answer, unless the number is a refusal's
-abbrev pub valueUnless : {A : Type 0} → ℕ → A → Option A
-valueUnless zero v = some v
-valueUnless (suc n) v = none
+abbrev pub value_unless : {A : Type 0} → ℕ → A → Option A
+value_unless zero v = some v
+value_unless (suc n) v = none
 
 -- the answer with this number, and with this sample where the number is 0
-abbrev pub sampleAnswer : ℕ → ℕ → Sampled
-sampleAnswer zero v = Sample v
-sampleAnswer (suc n) v = Refused (suc n)
+abbrev pub sample_answer : ℕ → ℕ → Sampled
+sample_answer zero v = Sample v
+sample_answer (suc n) v = Refused (suc n)

@@ -7,49 +7,49 @@ use mir.Syntax.{Symbol, Callee, Op2, Rv, Body, Arms, rv_opd, op2, op1, addr_of, 
 use mir.Syntax as S
 
 -- a division or a remainder, of integers, of floats or of the lanes of vectors; each operator is named, so that none is passed over
-abbrev pub isDivision : Op2 → Bool
-isDivision (S.div s) = true
-isDivision (S.rem s) = true
-isDivision S.float_div = true
-isDivision S.float_rem = true
-isDivision (S.map2 o) = isDivision o
-isDivision (S.mask o) = isDivision o
-isDivision (S.fold o) = isDivision o
-isDivision (S.add s) = false
-isDivision (S.sub s) = false
-isDivision (S.mul s) = false
-isDivision S.bit_and = false
-isDivision S.bit_or = false
-isDivision S.bit_xor = false
-isDivision S.shl = false
-isDivision (S.shr s) = false
-isDivision S.eq = false
-isDivision S.ne = false
-isDivision (S.lt s) = false
-isDivision (S.le s) = false
-isDivision S.with_addr = false
-isDivision S.offset = false
-isDivision S.ptr_eq = false
-isDivision S.ptr_ne = false
-isDivision S.ptr_lt = false
-isDivision S.ptr_le = false
-isDivision S.float_add = false
-isDivision S.float_sub = false
-isDivision S.float_mul = false
-isDivision S.float_eq = false
-isDivision S.float_ne = false
-isDivision S.float_lt = false
-isDivision S.float_le = false
-isDivision S.wrap_add = false
-isDivision S.wrap_sub = false
-isDivision S.wrap_mul = false
-isDivision (S.shuffle ns) = false
-isDivision (S.swizzle n) = false
-isDivision S.dot4 = false
+abbrev pub is_division : Op2 → Bool
+is_division (S.div s) = true
+is_division (S.rem s) = true
+is_division S.float_div = true
+is_division S.float_rem = true
+is_division (S.map2 o) = is_division o
+is_division (S.mask o) = is_division o
+is_division (S.fold o) = is_division o
+is_division (S.add s) = false
+is_division (S.sub s) = false
+is_division (S.mul s) = false
+is_division S.bit_and = false
+is_division S.bit_or = false
+is_division S.bit_xor = false
+is_division S.shl = false
+is_division (S.shr s) = false
+is_division S.eq = false
+is_division S.ne = false
+is_division (S.lt s) = false
+is_division (S.le s) = false
+is_division S.with_addr = false
+is_division S.offset = false
+is_division S.ptr_eq = false
+is_division S.ptr_ne = false
+is_division S.ptr_lt = false
+is_division S.ptr_le = false
+is_division S.float_add = false
+is_division S.float_sub = false
+is_division S.float_mul = false
+is_division S.float_eq = false
+is_division S.float_ne = false
+is_division S.float_lt = false
+is_division S.float_le = false
+is_division S.wrap_add = false
+is_division S.wrap_sub = false
+is_division S.wrap_mul = false
+is_division (S.shuffle ns) = false
+is_division (S.swizzle n) = false
+is_division S.dot4 = false
 
 -- a value that is computed by one
 abbrev pub divides : Rv → Bool
-divides (op2 o x y) = isDivision o
+divides (op2 o x y) = is_division o
 divides (rv_opd x) = false
 divides (op1 o x) = false
 divides (addr_of p) = false
@@ -58,18 +58,18 @@ divides (repeat x n) = false
 divides (repeat_p x n) = false
 divides (select x y z) = false
 
-abbrev pub isAmong : List Symbol → Symbol → Bool
-isAmong [] n = false
-isAmong (m ∷ ms) n = eqt m n || isAmong ms n
+abbrev pub is_among : List Symbol → Symbol → Bool
+is_among [] n = false
+is_among (m ∷ ms) n = eqt m n || is_among ms n
 
 -- a call of a function of the list: a trait's method is not known, and a thread's start and join and the steps that threads share are not
 -- calls of one
-abbrev pub isCallOf : List Symbol → Callee → Bool
-isCallOf ns (fn n xs) = isAmong ns n
-isCallOf ns (method d n xs) = false
-isCallOf ns (forked ts f) = false
-isCallOf ns (awaited ts) = false
-isCallOf ns (prim a) = false
+abbrev pub is_call_of : List Symbol → Callee → Bool
+is_call_of ns (fn n xs) = is_among ns n
+is_call_of ns (method d n xs) = false
+is_call_of ns (forked ts f) = false
+is_call_of ns (awaited ts) = false
+is_call_of ns (prim a) = false
 
 -- no division or remainder stands anywhere in the code, and each function that it calls is one of these; one that is called by its address
 -- might be another
@@ -81,15 +81,15 @@ abbrev mutual
   undivided ns (block a) = undivided ns a
   undivided ns (loop a) = undivided ns a
   undivided ns (cond x a b) = undivided ns a && undivided ns b
-  undivided ns (switch x a) = undividedArms ns a
+  undivided ns (switch x a) = undivided_arms ns a
   undivided ns (exit n) = true
   undivided ns return = true
-  undivided ns (call f xs p) = isCallOf ns f
+  undivided ns (call f xs p) = is_call_of ns f
   undivided ns unreachable = true
   undivided ns (call_v f s xs p) = false
   undivided ns (lend_static p t k) = true
 
-  pub undividedArms : List Symbol → Arms → Bool
-  undividedArms ns (arm ks a b) = undivided ns a && undividedArms ns b
-  undividedArms ns (default a) = undivided ns a
-  undividedArms ns no_default = true
+  pub undivided_arms : List Symbol → Arms → Bool
+  undivided_arms ns (arm ks a b) = undivided ns a && undivided_arms ns b
+  undivided_arms ns (default a) = undivided ns a
+  undivided_arms ns no_default = true

@@ -5,17 +5,17 @@
 ghost use Rattle.std.specs.Prelude.{◌≡◌, not, ◌||◌, ℕ, ◌+◌, ◌*◌, ◌/◌, ◌%◌, ◌≤◌, ◌<◌, ℤ, pos, ◌+ℤ◌, eqb, length, get_or};
 ghost use Rattle.laws.specs.Tabulate.{tabulate};
 ghost use Rattle.laws.proofs.Bounded.{Within};
-ghost use Rattle.combine_predictions.specs.Refusals.{cause, unlessRefused};
+ghost use Rattle.combine_predictions.specs.Refusals.{cause, unless_refused};
 ghost use Rattle.combine_predictions.specs.Averaging.{mean2, averaged};
 ghost use Rattle.forming_predictions.specs.declared.FieldParity.TheVariants.{Bottom};
-ghost use Rattle.forming_predictions.specs.Splitting.{floorHalf, halfFlag, IsSplit, horizontalHalf, verticalHalf};
-ghost use Rattle.forming_predictions.specs.Lines.{frame, field, fieldLines, clampTo, sampleAt};
+ghost use Rattle.forming_predictions.specs.Splitting.{floor_half, half_flag, IsSplit, horizontal_half, vertical_half};
+ghost use Rattle.forming_predictions.specs.Lines.{frame, field, field_lines, clamp_to, sample_at};
 ghost use Rattle.forming_predictions.specs.Means.{mean4, rounded};
-ghost use Rattle.forming_predictions.specs.Forming.{formed, predictedBlock};
-ghost use Rattle.forming_predictions.specs.Refusals.{outsideDomain, planeFits, positionFits, blockSideFits, planeRefusal, sampleRefusal, blockRefusal};
-ghost use Rattle.forming_predictions.specs.SampleAnswers.{sampleNumber, sampleValue, valueUnless, sampleAnswer};
-ghost use Rattle.forming_predictions.specs.BlockAnswers.{blockNumber, blockAnswer};
-ghost use Rattle.forming_predictions.specs.inner.Views.{lineStart, viewRead, spread, twoOf, fourOf, clampedOf, lineCell, pickedOf, picked, columnAt, viewBlock, ViewFits, Readable, BlockFits, Eights, RowFits, Inside, ColumnsFit, FetchFits, RegionFits, insideOf, Steps, Reach, RowsFit, ReadsAs, rowsSample, bit_of};
+ghost use Rattle.forming_predictions.specs.Forming.{formed, predicted_block};
+ghost use Rattle.forming_predictions.specs.Refusals.{outside_domain, plane_fits, position_fits, block_side_fits, plane_refusal, sample_refusal, block_refusal};
+ghost use Rattle.forming_predictions.specs.SampleAnswers.{sample_number, sample_value, value_unless, sample_answer};
+ghost use Rattle.forming_predictions.specs.BlockAnswers.{block_number, block_answer};
+ghost use Rattle.forming_predictions.specs.inner.Views.{line_start, view_read, spread, two_of, four_of, clamped_of, line_cell, picked_of, picked, column_at, view_block, ViewFits, Readable, BlockFits, Eights, RowFits, Inside, ColumnsFit, FetchFits, RegionFits, inside_of, Steps, Reach, RowsFit, ReadsAs, rows_sample, bit_of};
 
 use combine_predictions::{WRONG_LENGTH, average_predictions};
 
@@ -119,7 +119,7 @@ struct Rows {
 impl HalfPattern {
     /// The pattern with these flags.
     pub fn from_flags(half_horiz: bool, half_vert: bool) -> Self
-        ensures { (horizontalHalf result ≡ half_horiz) × (verticalHalf result ≡ half_vert) }
+        ensures { (horizontal_half result ≡ half_horiz) × (vertical_half result ≡ half_vert) }
     {
         if half_horiz {
             if half_vert {
@@ -135,7 +135,7 @@ impl HalfPattern {
 
     /// The pattern's flags.
     pub fn flags(self) -> HalfFlags
-        ensures { (result.horizontal ≡ horizontalHalf self) × (result.vertical ≡ verticalHalf self) }
+        ensures { (result.horizontal ≡ horizontal_half self) × (result.vertical ≡ vertical_half self) }
     {
         match self {
             HalfPattern::Integer => HalfFlags {
@@ -159,7 +159,7 @@ impl HalfPattern {
 
     /// Whether more than one sample is read.
     pub fn is_half_pel(self) -> bool
-        ensures { result ≡ (horizontalHalf self || verticalHalf self) }
+        ensures { result ≡ (horizontal_half self || vertical_half self) }
     {
         match self {
             HalfPattern::Integer => false,
@@ -173,7 +173,7 @@ impl HalfPattern {
 impl SplitVector {
     /// The pattern of the two half flags.
     pub fn pattern(self) -> HalfPattern
-        ensures { (horizontalHalf result ≡ self.horizontal.half_flag) × (verticalHalf result ≡ self.vertical.half_flag) }
+        ensures { (horizontal_half result ≡ self.horizontal.half_flag) × (vertical_half result ≡ self.vertical.half_flag) }
     {
         HalfPattern::from_flags(self.horizontal.half_flag, self.vertical.half_flag)
     }
@@ -181,14 +181,14 @@ impl SplitVector {
 
 /// The whole part, floored: a shift, since division would truncate.
 fn whole_part(vector: i32) -> i32
-    ensures { result ≡ floorHalf vector }
+    ensures { result ≡ floor_half vector }
 {
     vector >> 1
 }
 
 /// The lowest bit, also of a negative number.
 fn is_half(vector: i32) -> bool
-    ensures { result ≡ halfFlag vector }
+    ensures { result ≡ half_flag vector }
 {
     vector & 1 != 0
 }
@@ -217,7 +217,7 @@ pub fn split_vector(horizontal: i32, vertical: i32) -> SplitVector
 
 /// A coordinate, moved into 0..n - 1.
 fn clamp_to(n: usize, v: i32) -> usize
-    ensures { result ≡ clampTo n v }
+    ensures { result ≡ clamp_to n v }
 {
     if v < 0 {
         return 0;
@@ -235,7 +235,7 @@ fn clamp_to(n: usize, v: i32) -> usize
 impl FieldReference {
     /// The number of the field's lines. It is a difference for the top field, since `height + 1` may be too large a number.
     pub fn height(self) -> usize
-        ensures { result ≡ fieldLines self.parity self.plane.height }
+        ensures { result ≡ field_lines self.parity self.plane.height }
     {
         let h = self.plane.height;
         let parity = self.parity;
@@ -258,7 +258,7 @@ fn frame_rows(height: usize) -> Rows
 
 /// The rows of a bottom field of `count` lines. One without lines reads the plane's only row.
 fn bottom_rows(height: usize, count: usize) -> Rows
-    requires { count ≡ fieldLines Bottom height }
+    requires { count ≡ field_lines Bottom height }
     ensures { ReadsAs (field Bottom) height result }
 {
     if count == 0 {
@@ -294,7 +294,7 @@ fn field_rows(reference: FieldReference) -> Rows
 /// The place of a line's first sample.
 fn line_start(first: usize, step: usize, width: usize, line: usize) -> usize
     requires { (first ≤ 1) × (step ≤ 2) × (width ≤ 16384) × (line ≤ 16384) }
-    ensures { result ≡ lineStart first step width line }
+    ensures { result ≡ line_start first step width line }
 {
     (first + step * line) * width
 }
@@ -318,7 +318,7 @@ fn sample_at(
     y: i32,
 ) -> u8
     requires { ViewFits samples.now width first step count }
-    ensures { result ≡ viewRead samples.now width first step count x y }
+    ensures { result ≡ view_read samples.now width first step count x y }
 {
     let start = line_start(first, step, width, clamp_to(count, y));
     samples[start + clamp_to(width, x)]
@@ -346,7 +346,7 @@ fn form_sample(
 ) -> u8
     requires view_fits { ViewFits samples.now width first step count × (dx ≤ 1) × (dy ≤ 1) }
     requires steps { Steps 1 x × Steps 1 y }
-    ensures { result ≡ spread (viewRead samples.now width first step count) x y dx dy }
+    ensures { result ≡ spread (view_read samples.now width first step count) x y dx dy }
 {
     let right = shifted(x, dx);
     let below = shifted(y, dy);
@@ -408,7 +408,7 @@ fn copy_sixteen(from: &[u8], out: &mut [u8])
 /// it compiles to one instruction.
 fn two_eight(row: &[u8], below: &[u8], x: usize, dx: usize, out: &mut [u8])
     requires { RowFits row.now below.now x dx 8 × (length out.old ≡ 8) }
-    ensures { out.new ≡ tabulate 8 (twoOf row.now below.now x dx) }
+    ensures { out.new ≡ tabulate 8 (two_of row.now below.now x dx) }
 {
     let right = x + dx;
     let e = x + 8;
@@ -421,7 +421,7 @@ fn two_eight(row: &[u8], below: &[u8], x: usize, dx: usize, out: &mut [u8])
 /// Sixteen means of two samples, likewise.
 fn two_sixteen(row: &[u8], below: &[u8], x: usize, dx: usize, out: &mut [u8])
     requires { RowFits row.now below.now x dx 16 × (length out.old ≡ 16) }
-    ensures { out.new ≡ tabulate 16 (twoOf row.now below.now x dx) }
+    ensures { out.new ≡ tabulate 16 (two_of row.now below.now x dx) }
 {
     let right = x + dx;
     let e = x + 16;
@@ -465,7 +465,7 @@ fn sixteen_of_pairs(
 /// Eight means of four samples, by their sums, through a local array as in `two_eight`.
 fn four_eight(row: &[u8], below: &[u8], x: usize, dx: usize, out: &mut [u8])
     requires { RowFits row.now below.now x dx 8 × (length out.old ≡ 8) }
-    ensures { out.new ≡ tabulate 8 (fourOf row.now below.now x dx) }
+    ensures { out.new ≡ tabulate 8 (four_of row.now below.now x dx) }
 {
     let right = x + dx;
     let e = x + 8;
@@ -484,7 +484,7 @@ fn four_eight(row: &[u8], below: &[u8], x: usize, dx: usize, out: &mut [u8])
 /// Sixteen means of four samples. A mean of two is one instruction for all sixteen, and these are formed of such means.
 fn four_sixteen(row: &[u8], below: &[u8], x: usize, dx: usize, out: &mut [u8])
     requires { RowFits row.now below.now x dx 16 × (length out.old ≡ 16) }
-    ensures { out.new ≡ tabulate 16 (fourOf row.now below.now x dx) }
+    ensures { out.new ≡ tabulate 16 (four_of row.now below.now x dx) }
 {
     let right = x + dx;
     let e = x + 16;
@@ -512,7 +512,7 @@ fn four_sixteen(row: &[u8], below: &[u8], x: usize, dx: usize, out: &mut [u8])
 /// Eight predicted samples out of two rows of the plane, which are one where `dy` is 0. Unless both steps are 1, two samples are enough.
 fn eight_row(row: &[u8], below: &[u8], x: usize, dx: usize, dy: usize, out: &mut [u8])
     requires { RowFits row.now below.now x dx 8 × (dx ≤ 1) × (dy ≤ 1) × (dy ≡ 0 → below.now ≡ row.now) × (length out.old ≡ 8) }
-    ensures { out.new ≡ tabulate 8 (fourOf row.now below.now x dx) }
+    ensures { out.new ≡ tabulate 8 (four_of row.now below.now x dx) }
 {
     if dx + dy == 2 {
         four_eight(row, below, x, dx, out);
@@ -524,7 +524,7 @@ fn eight_row(row: &[u8], below: &[u8], x: usize, dx: usize, dy: usize, out: &mut
 /// Sixteen, likewise.
 fn sixteen_row(row: &[u8], below: &[u8], x: usize, dx: usize, dy: usize, out: &mut [u8])
     requires { RowFits row.now below.now x dx 16 × (dx ≤ 1) × (dy ≤ 1) × (dy ≡ 0 → below.now ≡ row.now) × (length out.old ≡ 16) }
-    ensures { out.new ≡ tabulate 16 (fourOf row.now below.now x dx) }
+    ensures { out.new ≡ tabulate 16 (four_of row.now below.now x dx) }
 {
     if dx + dy == 2 {
         four_sixteen(row, below, x, dx, out);
@@ -537,7 +537,7 @@ fn sixteen_row(row: &[u8], below: &[u8], x: usize, dx: usize, dy: usize, out: &m
 /// and takes it apart sample by sample.
 fn form_row(row: &[u8], below: &[u8], x: usize, dx: usize, dy: usize, out: &mut [u8])
     requires { RowFits row.now below.now x dx (length out.old) × (dx ≤ 1) × (dy ≤ 1) × (dy ≡ 0 → below.now ≡ row.now) × Eights (length out.old) }
-    ensures { out.new ≡ tabulate (length out.old) (fourOf row.now below.now x dx) }
+    ensures { out.new ≡ tabulate (length out.old) (four_of row.now below.now x dx) }
 {
     if out.len() == 16 {
         sixteen_row(row, below, x, dx, dy, out);
@@ -560,7 +560,7 @@ fn form_line(
     out: &mut [u8],
 )
     requires { ViewFits samples.now width first step count × Inside width count x y dx dy (length out.old) 1 × (dx ≤ 1) × (dy ≤ 1) × Eights (length out.old) }
-    ensures { out.new ≡ tabulate (length out.old) (lineCell samples.now width first step count (pos x) (pos y) dx dy) }
+    ensures { out.new ≡ tabulate (length out.old) (line_cell samples.now width first step count (pos x) (pos y) dx dy) }
 {
     let a = line_start(first, step, width, y);
     let b = line_start(first, step, width, y + dy);
@@ -583,7 +583,7 @@ fn two_square(
     out: &mut [u8],
 )
     requires { (start + 7 * stride + gap + width ≤ length samples.now) × (stride ≤ 32768) × (x + dx + 8 ≤ width) × (length out.old ≡ 64) }
-    ensures { out.new ≡ tabulate 64 (λ (k : ℕ). twoOf samples.now samples.now (start + k / 8 * stride + x) (gap + dx) (k % 8)) }
+    ensures { out.new ≡ tabulate 64 (λ (k : ℕ). two_of samples.now samples.now (start + k / 8 * stride + x) (gap + dx) (k % 8)) }
 {
     let mut a = start;
     let mut r: usize = 0;
@@ -614,7 +614,7 @@ fn form_square(
     out: &mut [u8],
 )
     requires { ViewFits samples.now width first step count × Inside width count x y dx dy 8 8 × (dx + dy ≤ 1) × (length out.old ≡ 64) }
-    ensures { out.new ≡ viewBlock samples.now width first step count (pos x) (pos y) dx dy 8 8 }
+    ensures { out.new ≡ view_block samples.now width first step count (pos x) (pos y) dx dy 8 8 }
 {
     let start = line_start(first, step, width, y);
     let stride = step * width;
@@ -641,7 +641,7 @@ fn form_inside(
     out: &mut [u8],
 )
     requires { ViewFits samples.now width first step count × BlockFits dx dy block_width block_height out.old × Inside width count x y dx dy block_width block_height × Eights block_width }
-    ensures { out.new ≡ viewBlock samples.now width first step count (pos x) (pos y) dx dy block_width block_height }
+    ensures { out.new ≡ view_block samples.now width first step count (pos x) (pos y) dx dy block_width block_height }
 {
     if ((block_width == 8) & (block_height == 8)) & (dx + dy <= 1) {
         form_square(samples, width, first, step, count, x, y, dx, dy, out);
@@ -672,7 +672,7 @@ fn form_inside(
 /// The columns that a block reads, clamped.
 fn clamp_columns(width: usize, x: i32, columns: &mut [usize])
     requires { Reach x × (length columns.old ≤ 17) }
-    ensures { columns.new ≡ tabulate (length columns.old) (columnAt width x) }
+    ensures { columns.new ≡ tabulate (length columns.old) (column_at width x) }
 {
     let mut k: usize = 0;
     while k < columns.len() {
@@ -683,7 +683,7 @@ fn clamp_columns(width: usize, x: i32, columns: &mut [usize])
 
 fn pick_eight(row: &[u8], columns: &[usize], out: &mut [u8])
     requires { ColumnsFit columns.now (length row.now) × (length columns.now ≡ 8) × (length out.old ≡ 8) }
-    ensures { out.new ≡ tabulate 8 (pickedOf row.now columns.now) }
+    ensures { out.new ≡ tabulate 8 (picked_of row.now columns.now) }
 {
     let mut k: usize = 0;
     while k < 8 {
@@ -695,7 +695,7 @@ fn pick_eight(row: &[u8], columns: &[usize], out: &mut [u8])
 /// The samples of a row in 8 or 16 columns, or in one more.
 fn pick_columns(row: &[u8], columns: &[usize], out: &mut [u8])
     requires { ColumnsFit columns.now (length row.now) × (length out.old ≡ length columns.now) }
-    ensures { out.new ≡ tabulate (length out.old) (pickedOf row.now columns.now) }
+    ensures { out.new ≡ tabulate (length out.old) (picked_of row.now columns.now) }
 {
     let n = out.len();
     pick_eight(row, &columns[0..8], &mut out[0..8]);
@@ -784,7 +784,7 @@ fn form_region(
 )
     requires view_fits { ViewFits samples.now width first step count × ColumnsFit columns.now width × Reach y × Eights block_width }
     requires block_fits { BlockFits dx dy block_width block_height out.old × RegionFits columns.now region.old dx dy block_width block_height }
-    ensures { (x : ℤ) → columns.now ≡ tabulate (block_width + dx) (columnAt width x) → out.new ≡ viewBlock samples.now width first step count x y dx dy block_width block_height }
+    ensures { (x : ℤ) → columns.now ≡ tabulate (block_width + dx) (column_at width x) → out.new ≡ view_block samples.now width first step count x y dx dy block_width block_height }
 {
     let w = block_width + dx;
     let h = block_height + dy;
@@ -824,7 +824,7 @@ fn form_fetched(
 )
     requires view_fits { ViewFits samples.now width first step count × Reach y × Eights block_width }
     requires block_fits { BlockFits dx dy block_width block_height out.old × FetchFits columns.now region.old width block_width }
-    ensures { (x : ℤ) → columns.now ≡ tabulate (block_width + 1) (columnAt width x) → out.new ≡ viewBlock samples.now width first step count x y dx dy block_width block_height }
+    ensures { (x : ℤ) → columns.now ≡ tabulate (block_width + 1) (column_at width x) → out.new ≡ view_block samples.now width first step count x y dx dy block_width block_height }
 {
     let w = block_width + dx;
     if dx + dy == 0 {
@@ -875,7 +875,7 @@ fn form_eights(
     out: &mut [u8],
 )
     requires { ViewFits samples.now width first step count × Reach x × Reach y × BlockFits dx dy block_width block_height out.old × Eights block_width }
-    ensures { out.new ≡ viewBlock samples.now width first step count x y dx dy block_width block_height }
+    ensures { out.new ≡ view_block samples.now width first step count x y dx dy block_width block_height }
 {
     if block_width == 8 {
         let mut columns = [0usize; 9];
@@ -921,7 +921,7 @@ fn form_eights(
 /// Whether n places from `position` on lie below the limit.
 fn is_inside(position: i32, n: usize, limit: usize) -> bool
     requires { n ≤ 17 }
-    ensures { result ≡ insideOf position n limit }
+    ensures { result ≡ inside_of position n limit }
 {
     if position < 0 {
         return false;
@@ -934,7 +934,7 @@ fn is_inside(position: i32, n: usize, limit: usize) -> bool
 /// A row of fewer than eight.
 fn short_row(row: &[u8], below: &[u8], x: usize, dx: usize, out: &mut [u8])
     requires { RowFits row.now below.now x dx (length out.old) }
-    ensures { out.new ≡ tabulate (length out.old) (fourOf row.now below.now x dx) }
+    ensures { out.new ≡ tabulate (length out.old) (four_of row.now below.now x dx) }
 {
     let n = out.len();
     let right = x + dx;
@@ -953,7 +953,7 @@ fn short_row(row: &[u8], below: &[u8], x: usize, dx: usize, out: &mut [u8])
 /// short.
 fn any_row(row: &[u8], below: &[u8], x: usize, dx: usize, out: &mut [u8])
     requires { RowFits row.now below.now x dx (length out.old) × (length out.old ≤ 16) }
-    ensures { out.new ≡ tabulate (length out.old) (fourOf row.now below.now x dx) }
+    ensures { out.new ≡ tabulate (length out.old) (four_of row.now below.now x dx) }
 {
     let n = out.len();
     if n < 8 {
@@ -979,7 +979,7 @@ fn any_line(
     out: &mut [u8],
 )
     requires { ViewFits samples.now width first step count × Inside width count x y dx dy (length out.old) 1 × (dx ≤ 1) × (dy ≤ 1) × (length out.old ≤ 16) }
-    ensures { out.new ≡ tabulate (length out.old) (lineCell samples.now width first step count (pos x) (pos y) dx dy) }
+    ensures { out.new ≡ tabulate (length out.old) (line_cell samples.now width first step count (pos x) (pos y) dx dy) }
 {
     let a = line_start(first, step, width, y);
     let b = line_start(first, step, width, y + dy);
@@ -1004,7 +1004,7 @@ fn form_any(
     out: &mut [u8],
 )
     requires { ViewFits samples.now width first step count × BlockFits dx dy block_width height out.old × Inside width count x y dx dy block_width height }
-    ensures { out.new ≡ viewBlock samples.now width first step count (pos x) (pos y) dx dy block_width height }
+    ensures { out.new ≡ view_block samples.now width first step count (pos x) (pos y) dx dy block_width height }
 {
     let mut r: usize = 0;
     while r < height {
@@ -1029,7 +1029,7 @@ fn form_any(
 /// A predicted sample of two rows of the plane, in the columns that x is clamped to.
 fn clamped_sample(row: &[u8], below: &[u8], x: i32, dx: usize) -> u8
     requires { (0 < length row.now) × (length below.now ≡ length row.now) × Steps 1 x × (dx ≤ 1) }
-    ensures { result ≡ clampedOf row.now below.now x dx }
+    ensures { result ≡ clamped_of row.now below.now x dx }
 {
     let here = clamp_to(row.len(), x);
     let right = clamp_to(row.len(), shifted(x, dx));
@@ -1039,7 +1039,7 @@ fn clamped_sample(row: &[u8], below: &[u8], x: i32, dx: usize) -> u8
 /// A row of them.
 fn clamped_row(row: &[u8], below: &[u8], x: i32, dx: usize, out: &mut [u8])
     requires { (0 < length row.now) × (length below.now ≡ length row.now) × Reach x × (dx ≤ 1) × (length out.old ≤ 16) }
-    ensures { out.new ≡ tabulate (length out.old) (λ (k : ℕ). clampedOf row.now below.now (x +ℤ pos k) dx) }
+    ensures { out.new ≡ tabulate (length out.old) (λ (k : ℕ). clamped_of row.now below.now (x +ℤ pos k) dx) }
 {
     let mut k: usize = 0;
     while k < out.len() {
@@ -1051,7 +1051,7 @@ fn clamped_row(row: &[u8], below: &[u8], x: i32, dx: usize, out: &mut [u8])
 /// A row of samples as they are, in the columns that x is clamped to.
 fn clamped_copy(row: &[u8], x: i32, out: &mut [u8])
     requires { (0 < length row.now) × Reach x × (length out.old ≤ 16) }
-    ensures { out.new ≡ tabulate (length out.old) (λ (k : ℕ). get_or row.now (columnAt (length row.now) x k) 0) }
+    ensures { out.new ≡ tabulate (length out.old) (λ (k : ℕ). get_or row.now (column_at (length row.now) x k) 0) }
 {
     let mut k: usize = 0;
     while k < out.len() {
@@ -1074,7 +1074,7 @@ fn clamped_line(
     out: &mut [u8],
 )
     requires { ViewFits samples.now width first step count × Reach x × Steps 1 y × (dx ≤ 1) × (dy ≤ 1) × (length out.old ≤ 16) }
-    ensures { out.new ≡ tabulate (length out.old) (lineCell samples.now width first step count x y dx dy) }
+    ensures { out.new ≡ tabulate (length out.old) (line_cell samples.now width first step count x y dx dy) }
 {
     let a = line_start(first, step, width, clamp_to(count, y));
     let e = a + width;
@@ -1104,7 +1104,7 @@ fn clamped_lines(
     out: &mut [u8],
 )
     requires { ViewFits samples.now width first step count × Reach x × Reach y × BlockFits dx dy block_width height out.old }
-    ensures { out.new ≡ viewBlock samples.now width first step count x y dx dy block_width height }
+    ensures { out.new ≡ view_block samples.now width first step count x y dx dy block_width height }
 {
     let mut r: usize = 0;
     while r < height {
@@ -1142,7 +1142,7 @@ fn form_other(
     out: &mut [u8],
 )
     requires { ViewFits samples.now width first step count × Reach x × Reach y × BlockFits dx dy block_width block_height out.old }
-    ensures { out.new ≡ viewBlock samples.now width first step count x y dx dy block_width block_height }
+    ensures { out.new ≡ view_block samples.now width first step count x y dx dy block_width block_height }
 {
     let columns = is_inside(x, dx + block_width, width);
     let lines = is_inside(y, dy + block_height, count);
@@ -1205,7 +1205,7 @@ fn form_clamped(
     out: &mut [u8],
 )
     requires { Readable samples.now width first step count × Reach x × Reach y × BlockFits dx dy block_width block_height out.old }
-    ensures { out.new ≡ viewBlock samples.now width first step count x y dx dy block_width block_height }
+    ensures { out.new ≡ view_block samples.now width first step count x y dx dy block_width block_height }
 {
     if samples.len() == 0 {
         let zero = [0u8; 1];
@@ -1274,7 +1274,7 @@ fn form(
     out: &mut [u8],
 )
     requires { Readable samples.now width first step count × Reach x × Reach y × BlockFits dx dy block_width block_height out.old }
-    ensures { out.new ≡ viewBlock samples.now width first step count x y dx dy block_width block_height }
+    ensures { out.new ≡ view_block samples.now width first step count x y dx dy block_width block_height }
 {
     let inside = is_inside(x, dx + block_width, width) & is_inside(y, dy + block_height, count);
     if inside & by_eights(block_width) {
@@ -1315,7 +1315,7 @@ fn form(
 /// A position, moved by the whole part of a vector.
 fn moved(position: i32, vector: i32) -> i32
     requires { Within 32782 position }
-    ensures { (result ≡ position +ℤ floorHalf vector) × Reach result }
+    ensures { (result ≡ position +ℤ floor_half vector) × Reach result }
 {
     let split = split_component(vector);
     position + split.int_vec
@@ -1323,7 +1323,7 @@ fn moved(position: i32, vector: i32) -> i32
 
 /// The step to the neighbour that a half asks for.
 fn half_step(vector: i32) -> usize
-    ensures { (result ≡ bit_of (halfFlag vector)) × (result ≤ 1) }
+    ensures { (result ≡ bit_of (half_flag vector)) × (result ≤ 1) }
 {
     let split = split_component(vector);
     if split.half_flag {
@@ -1334,8 +1334,8 @@ fn half_step(vector: i32) -> usize
 
 /// The sample at (x, y). A plane has no samples where one of its sides is 0.
 fn read_rows(rows: Rows, plane: ReferencePlane, samples: &[u8], x: i32, y: i32) -> u8
-    requires { RowsFit rows plane.height × (planeRefusal plane.width plane.height (length samples.now) ≡ 0) }
-    ensures { result ≡ rowsSample rows plane.width plane.height samples.now x y }
+    requires { RowsFit rows plane.height × (plane_refusal plane.width plane.height (length samples.now) ≡ 0) }
+    ensures { result ≡ rows_sample rows plane.width plane.height samples.now x y }
 {
     if samples.len() == 0 {
         return 0;
@@ -1361,8 +1361,8 @@ fn form_rows_sample(
     horizontal: i32,
     vertical: i32,
 ) -> u8
-    requires { RowsFit rows plane.height × (sampleRefusal plane.width plane.height (length samples.now) x y ≡ 0) }
-    ensures { result ≡ formed rounded (rowsSample rows plane.width plane.height samples.now) x y horizontal vertical }
+    requires { RowsFit rows plane.height × (sample_refusal plane.width plane.height (length samples.now) x y ≡ 0) }
+    ensures { result ≡ formed rounded (rows_sample rows plane.width plane.height samples.now) x y horizontal vertical }
 {
     if samples.len() == 0 {
         return 0;
@@ -1392,8 +1392,8 @@ fn form_rows(
     vertical: i32,
     out: &mut [u8],
 )
-    requires { RowsFit rows plane.height × (blockRefusal plane.width plane.height (length samples.now) x y size.width size.height (length out.old) ≡ 0) }
-    ensures { out.new ≡ predictedBlock rounded (rowsSample rows plane.width plane.height samples.now) size.width size.height x y horizontal vertical }
+    requires { RowsFit rows plane.height × (block_refusal plane.width plane.height (length samples.now) x y size.width size.height (length out.old) ≡ 0) }
+    ensures { out.new ≡ predicted_block rounded (rows_sample rows plane.width plane.height samples.now) size.width size.height x y horizontal vertical }
 {
     form(
         samples,
@@ -1415,7 +1415,7 @@ fn form_rows(
 
 /// Whether a plane with so many samples is in the domain.
 pub fn plane_fits(plane: ReferencePlane, count: usize) -> bool
-    ensures { result ≡ planeFits plane.width plane.height count }
+    ensures { result ≡ plane_fits plane.width plane.height count }
 {
     if plane.width > LARGEST_SIDE {
         return false;
@@ -1428,20 +1428,20 @@ pub fn plane_fits(plane: ReferencePlane, count: usize) -> bool
 
 /// `&` and not `&&`: both tests are made, and there is one path.
 fn position_fits(last: i32, position: i32) -> bool
-    ensures { result ≡ positionFits last position }
+    ensures { result ≡ position_fits last position }
 {
     (FIRST_POSITION <= position) & (position <= last)
 }
 
 fn block_side_fits(side: usize) -> bool
-    ensures { result ≡ blockSideFits side }
+    ensures { result ≡ block_side_fits side }
 {
     (1 <= side) & (side <= LARGEST_BLOCK_SIDE)
 }
 
 /// 14 unless what a call is given fits the domain.
 fn domain_refusal(fits: bool) -> u8
-    ensures { result ≡ cause (not fits) outsideDomain }
+    ensures { result ≡ cause (not fits) outside_domain }
 {
     if fits {
         return 0;
@@ -1450,13 +1450,13 @@ fn domain_refusal(fits: bool) -> u8
 }
 
 fn plane_refusal(plane: ReferencePlane, count: usize) -> u8
-    ensures { result ≡ planeRefusal plane.width plane.height count }
+    ensures { result ≡ plane_refusal plane.width plane.height count }
 {
     domain_refusal(plane_fits(plane, count))
 }
 
 fn sample_refusal(plane: ReferencePlane, count: usize, x: i32, y: i32) -> u8
-    ensures { result ≡ sampleRefusal plane.width plane.height count x y }
+    ensures { result ≡ sample_refusal plane.width plane.height count x y }
 {
     domain_refusal(
         plane_fits(plane, count) & (position_fits(LAST_SAMPLE, x) & position_fits(LAST_SAMPLE, y)),
@@ -1471,7 +1471,7 @@ fn block_refusal(
     size: BlockSize,
     room: usize,
 ) -> u8
-    ensures { result ≡ blockRefusal plane.width plane.height count x y size.width size.height room }
+    ensures { result ≡ block_refusal plane.width plane.height count x y size.width size.height room }
 {
     let sides = block_side_fits(size.width) & block_side_fits(size.height);
     let positions = position_fits(LAST_BLOCK, x) & position_fits(LAST_BLOCK, y);
@@ -1489,7 +1489,7 @@ fn block_refusal(
 
 fn sample_rows(rows: Rows, plane: ReferencePlane, samples: &[u8], x: i32, y: i32) -> Sampled
     requires { RowsFit rows plane.height }
-    ensures answer { result ≡ sampleAnswer (planeRefusal plane.width plane.height (length samples.now)) (rowsSample rows plane.width plane.height samples.now x y) }
+    ensures answer { result ≡ sample_answer (plane_refusal plane.width plane.height (length samples.now)) (rows_sample rows plane.width plane.height samples.now x y) }
 {
     let number = plane_refusal(plane, samples.len());
     if number != 0 {
@@ -1508,7 +1508,7 @@ fn predict_rows_sample(
     vertical: i32,
 ) -> Sampled
     requires { RowsFit rows plane.height }
-    ensures answer { result ≡ sampleAnswer (sampleRefusal plane.width plane.height (length samples.now) x y) (formed rounded (rowsSample rows plane.width plane.height samples.now) x y horizontal vertical) }
+    ensures answer { result ≡ sample_answer (sample_refusal plane.width plane.height (length samples.now) x y) (formed rounded (rows_sample rows plane.width plane.height samples.now) x y horizontal vertical) }
 {
     let number = sample_refusal(plane, samples.len(), x, y);
     if number != 0 {
@@ -1530,9 +1530,9 @@ fn predict_rows_block(
     vertical: i32,
     out: &mut [u8],
 ) -> Predicted
-    requires { RowsFit rows plane.height × (number ≡ blockRefusal plane.width plane.height (length samples.now) x y size.width size.height (length out.old)) }
-    ensures answer { result ≡ blockAnswer (blockRefusal plane.width plane.height (length samples.now) x y size.width size.height (length out.old)) }
-    ensures buffer { out.new ≡ unlessRefused (blockNumber result) (predictedBlock rounded (rowsSample rows plane.width plane.height samples.now) size.width size.height x y horizontal vertical) out.old }
+    requires { RowsFit rows plane.height × (number ≡ block_refusal plane.width plane.height (length samples.now) x y size.width size.height (length out.old)) }
+    ensures answer { result ≡ block_answer (block_refusal plane.width plane.height (length samples.now) x y size.width size.height (length out.old)) }
+    ensures buffer { out.new ≡ unless_refused (block_number result) (predicted_block rounded (rows_sample rows plane.width plane.height samples.now) size.width size.height x y horizontal vertical) out.old }
 {
     if number != 0 {
         return Predicted::Refused(number);
@@ -1547,9 +1547,9 @@ impl ReferencePlane {
     /// The sample at (x, y), which is clamped to the plane: any position is taken. It refuses a plane that is outside the domain or whose
     /// samples are not width times height.
     pub fn sample(self, samples: &[u8], x: i32, y: i32) -> Sampled
-        ensures answer { result ≡ sampleAnswer (planeRefusal self.width self.height (length samples.now)) (sampleAt frame self.width self.height samples.now x y) }
-        ensures number { sampleNumber result ≡ planeRefusal self.width self.height (length samples.now) }
-        ensures value { sampleValue result ≡ valueUnless (sampleNumber result) (sampleAt frame self.width self.height samples.now x y) }
+        ensures answer { result ≡ sample_answer (plane_refusal self.width self.height (length samples.now)) (sample_at frame self.width self.height samples.now x y) }
+        ensures number { sample_number result ≡ plane_refusal self.width self.height (length samples.now) }
+        ensures value { sample_value result ≡ value_unless (sample_number result) (sample_at frame self.width self.height samples.now x y) }
     {
         sample_rows(frame_rows(self.height), self, samples, x, y)
     }
@@ -1558,9 +1558,9 @@ impl ReferencePlane {
 impl FieldReference {
     /// The sample of the field at (x, y): y is clamped to the field's lines, x to the plane.
     pub fn sample(self, samples: &[u8], x: i32, y: i32) -> Sampled
-        ensures answer { result ≡ sampleAnswer (planeRefusal self.plane.width self.plane.height (length samples.now)) (sampleAt (field self.parity) self.plane.width self.plane.height samples.now x y) }
-        ensures number { sampleNumber result ≡ planeRefusal self.plane.width self.plane.height (length samples.now) }
-        ensures value { sampleValue result ≡ valueUnless (sampleNumber result) (sampleAt (field self.parity) self.plane.width self.plane.height samples.now x y) }
+        ensures answer { result ≡ sample_answer (plane_refusal self.plane.width self.plane.height (length samples.now)) (sample_at (field self.parity) self.plane.width self.plane.height samples.now x y) }
+        ensures number { sample_number result ≡ plane_refusal self.plane.width self.plane.height (length samples.now) }
+        ensures value { sample_value result ≡ value_unless (sample_number result) (sample_at (field self.parity) self.plane.width self.plane.height samples.now x y) }
     {
         sample_rows(field_rows(self), self.plane, samples, x, y)
     }
@@ -1576,9 +1576,9 @@ pub fn predict_sample(
     horizontal: i32,
     vertical: i32,
 ) -> Sampled
-    ensures answer { result ≡ sampleAnswer (sampleRefusal reference.width reference.height (length samples.now) x y) (formed rounded (sampleAt frame reference.width reference.height samples.now) x y horizontal vertical) }
-    ensures number { sampleNumber result ≡ sampleRefusal reference.width reference.height (length samples.now) x y }
-    ensures value { sampleValue result ≡ valueUnless (sampleNumber result) (formed rounded (sampleAt frame reference.width reference.height samples.now) x y horizontal vertical) }
+    ensures answer { result ≡ sample_answer (sample_refusal reference.width reference.height (length samples.now) x y) (formed rounded (sample_at frame reference.width reference.height samples.now) x y horizontal vertical) }
+    ensures number { sample_number result ≡ sample_refusal reference.width reference.height (length samples.now) x y }
+    ensures value { sample_value result ≡ value_unless (sample_number result) (formed rounded (sample_at frame reference.width reference.height samples.now) x y horizontal vertical) }
 {
     predict_rows_sample(
         frame_rows(reference.height),
@@ -1600,9 +1600,9 @@ pub fn predict_field_sample(
     horizontal: i32,
     vertical: i32,
 ) -> Sampled
-    ensures answer { result ≡ sampleAnswer (sampleRefusal reference.plane.width reference.plane.height (length samples.now) x y) (formed rounded (sampleAt (field reference.parity) reference.plane.width reference.plane.height samples.now) x y horizontal vertical) }
-    ensures number { sampleNumber result ≡ sampleRefusal reference.plane.width reference.plane.height (length samples.now) x y }
-    ensures value { sampleValue result ≡ valueUnless (sampleNumber result) (formed rounded (sampleAt (field reference.parity) reference.plane.width reference.plane.height samples.now) x y horizontal vertical) }
+    ensures answer { result ≡ sample_answer (sample_refusal reference.plane.width reference.plane.height (length samples.now) x y) (formed rounded (sample_at (field reference.parity) reference.plane.width reference.plane.height samples.now) x y horizontal vertical) }
+    ensures number { sample_number result ≡ sample_refusal reference.plane.width reference.plane.height (length samples.now) x y }
+    ensures value { sample_value result ≡ value_unless (sample_number result) (formed rounded (sample_at (field reference.parity) reference.plane.width reference.plane.height samples.now) x y horizontal vertical) }
 {
     predict_rows_sample(
         field_rows(reference),
@@ -1628,8 +1628,8 @@ pub fn predict_block(
     vertical: i32,
     out: &mut [u8],
 ) -> Predicted
-    ensures answer { result ≡ blockAnswer (blockRefusal reference.width reference.height (length samples.now) top_left_x top_left_y size.width size.height (length out.old)) }
-    ensures buffer { out.new ≡ unlessRefused (blockNumber result) (predictedBlock rounded (sampleAt frame reference.width reference.height samples.now) size.width size.height top_left_x top_left_y horizontal vertical) out.old }
+    ensures answer { result ≡ block_answer (block_refusal reference.width reference.height (length samples.now) top_left_x top_left_y size.width size.height (length out.old)) }
+    ensures buffer { out.new ≡ unless_refused (block_number result) (predicted_block rounded (sample_at frame reference.width reference.height samples.now) size.width size.height top_left_x top_left_y horizontal vertical) out.old }
 {
     predict_rows_block(
         block_refusal(
@@ -1663,8 +1663,8 @@ pub fn predict_field_block(
     vertical: i32,
     out: &mut [u8],
 ) -> Predicted
-    ensures answer { result ≡ blockAnswer (blockRefusal reference.plane.width reference.plane.height (length samples.now) top_left_x top_left_y size.width size.height (length out.old)) }
-    ensures buffer { out.new ≡ unlessRefused (blockNumber result) (predictedBlock rounded (sampleAt (field reference.parity) reference.plane.width reference.plane.height samples.now) size.width size.height top_left_x top_left_y horizontal vertical) out.old }
+    ensures answer { result ≡ block_answer (block_refusal reference.plane.width reference.plane.height (length samples.now) top_left_x top_left_y size.width size.height (length out.old)) }
+    ensures buffer { out.new ≡ unless_refused (block_number result) (predicted_block rounded (sample_at (field reference.parity) reference.plane.width reference.plane.height samples.now) size.width size.height top_left_x top_left_y horizontal vertical) out.old }
 {
     predict_rows_block(
         block_refusal(

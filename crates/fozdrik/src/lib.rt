@@ -2,16 +2,16 @@
 #![tactic(auto)]
 
 ghost use Rattle.std.specs.Prelude.{◌≡◌, cond, [], ◌∷◌, length};
-ghost use Rattle.combine_predictions.specs.Refusals.{or_else, unlessRefused};
+ghost use Rattle.combine_predictions.specs.Refusals.{or_else, unless_refused};
 ghost use Rattle.forming_predictions.specs.Means.{rounded};
-ghost use Rattle.pmv.specs.Update.{updateRefusal, updateOutcome, outcomeNumber, updated};
-ghost use Rattle.pmv.specs.Answers.{vectorNumber};
-ghost use Rattle.inter_reconstruction.specs.Motion.{frameUses, fieldUses};
-ghost use Rattle.inter_reconstruction.specs.Frames.{samplesOf, lengthsOf, isPresent, readReference};
+ghost use Rattle.pmv.specs.Update.{update_refusal, update_outcome, outcome_number, updated};
+ghost use Rattle.pmv.specs.Answers.{vector_number};
+ghost use Rattle.inter_reconstruction.specs.Motion.{frame_uses, field_uses};
+ghost use Rattle.inter_reconstruction.specs.Frames.{samples_of, lengths_of, is_present, read_reference};
 ghost use Rattle.inter_reconstruction.specs.Macroblock.{predicted};
-ghost use Rattle.inter_reconstruction.specs.Refusals.{predictionRefusal};
-ghost use Rattle.entry_points.specs.Layout.{predictorsOf, predictorBytes, withPair};
-ghost use Rattle.entry_points.specs.Entries.{unknownRefusal, vectorKnown, updateKnown, frameKnown, fieldKnown, indexOf, directionOf, format_of, structureOf, motionVectorOf, context_of, vectorFrom, vectorBytes, geometryOf, referenceOf, frameMotionOf, fieldMotionOf};
+ghost use Rattle.inter_reconstruction.specs.Refusals.{prediction_refusal};
+ghost use Rattle.entry_points.specs.Layout.{predictors_of, predictor_bytes, with_pair};
+ghost use Rattle.entry_points.specs.Entries.{unknown_refusal, vector_known, update_known, frame_known, field_known, index_of, direction_of, format_of, structure_of, motion_vector_of, context_of, vector_from, vector_bytes, geometry_of, reference_of, frame_motion_of, field_motion_of};
 
 /// A vector's two components against its predictors: 0, or the number of the refusal.
 #[unsafe(no_mangle)]
@@ -31,18 +31,18 @@ pub extern "C" fn fozdrik_reconstruct_motion_vector(
     predictors: &mut [u8],
     vector: &mut [u8],
 ) -> u32
-    ensures number { let known = vectorKnown r s motion_residual_horiz_present motion_residual_vert_present mv_format picture_structure (length predictors.old) (length vector.old) in
-        let coded = motionVectorOf motion_code_horiz motion_residual_horiz_present motion_residual_horiz motion_code_vert motion_residual_vert_present motion_residual_vert in
-        let decoded = vectorFrom predictors.old (indexOf r) (directionOf s) coded f_code_horiz f_code_vert (format_of mv_format) (structureOf picture_structure) in
-        result ≡ or_else (unknownRefusal known) (vectorNumber decoded.answer) }
-    ensures predictors { let known = vectorKnown r s motion_residual_horiz_present motion_residual_vert_present mv_format picture_structure (length predictors.old) (length vector.old) in
-        let coded = motionVectorOf motion_code_horiz motion_residual_horiz_present motion_residual_horiz motion_code_vert motion_residual_vert_present motion_residual_vert in
-        let decoded = vectorFrom predictors.old (indexOf r) (directionOf s) coded f_code_horiz f_code_vert (format_of mv_format) (structureOf picture_structure) in
-        predictors.new ≡ cond known (withPair predictors.old (indexOf r) (directionOf s) decoded.predictors) predictors.old }
-    ensures vector { let known = vectorKnown r s motion_residual_horiz_present motion_residual_vert_present mv_format picture_structure (length predictors.old) (length vector.old) in
-        let coded = motionVectorOf motion_code_horiz motion_residual_horiz_present motion_residual_horiz motion_code_vert motion_residual_vert_present motion_residual_vert in
-        let decoded = vectorFrom predictors.old (indexOf r) (directionOf s) coded f_code_horiz f_code_vert (format_of mv_format) (structureOf picture_structure) in
-        vector.new ≡ cond known (vectorBytes decoded.answer vector.old) vector.old }
+    ensures number { let known = vector_known r s motion_residual_horiz_present motion_residual_vert_present mv_format picture_structure (length predictors.old) (length vector.old) in
+        let coded = motion_vector_of motion_code_horiz motion_residual_horiz_present motion_residual_horiz motion_code_vert motion_residual_vert_present motion_residual_vert in
+        let decoded = vector_from predictors.old (index_of r) (direction_of s) coded f_code_horiz f_code_vert (format_of mv_format) (structure_of picture_structure) in
+        result ≡ or_else (unknown_refusal known) (vector_number decoded.answer) }
+    ensures predictors { let known = vector_known r s motion_residual_horiz_present motion_residual_vert_present mv_format picture_structure (length predictors.old) (length vector.old) in
+        let coded = motion_vector_of motion_code_horiz motion_residual_horiz_present motion_residual_horiz motion_code_vert motion_residual_vert_present motion_residual_vert in
+        let decoded = vector_from predictors.old (index_of r) (direction_of s) coded f_code_horiz f_code_vert (format_of mv_format) (structure_of picture_structure) in
+        predictors.new ≡ cond known (with_pair predictors.old (index_of r) (direction_of s) decoded.predictors) predictors.old }
+    ensures vector { let known = vector_known r s motion_residual_horiz_present motion_residual_vert_present mv_format picture_structure (length predictors.old) (length vector.old) in
+        let coded = motion_vector_of motion_code_horiz motion_residual_horiz_present motion_residual_horiz motion_code_vert motion_residual_vert_present motion_residual_vert in
+        let decoded = vector_from predictors.old (index_of r) (direction_of s) coded f_code_horiz f_code_vert (format_of mv_format) (structure_of picture_structure) in
+        vector.new ≡ cond known (vector_bytes decoded.answer vector.old) vector.old }
 {
     entry_points::vectors::fozdrik_reconstruct_motion_vector(
         r,
@@ -75,13 +75,13 @@ pub extern "C" fn fozdrik_update_predictors(
     predictors: &mut [u8],
     outcome: &mut [u8],
 ) -> u32
-    ensures number { let known = updateKnown picture_structure prediction_type_present prediction_type macroblock_motion_forward macroblock_motion_backward macroblock_intra concealment_motion_vectors (length predictors.old) (length outcome.old) in
+    ensures number { let known = update_known picture_structure prediction_type_present prediction_type macroblock_motion_forward macroblock_motion_backward macroblock_intra concealment_motion_vectors (length predictors.old) (length outcome.old) in
         let context = context_of picture_structure prediction_type_present prediction_type macroblock_motion_forward macroblock_motion_backward macroblock_intra concealment_motion_vectors in
-        result ≡ or_else (unknownRefusal known) (updateRefusal context) }
+        result ≡ or_else (unknown_refusal known) (update_refusal context) }
     ensures predictors { let context = context_of picture_structure prediction_type_present prediction_type macroblock_motion_forward macroblock_motion_backward macroblock_intra concealment_motion_vectors in
-        predictors.new ≡ unlessRefused result (predictorBytes (updated (predictorsOf predictors.old) context).pmv) predictors.old }
+        predictors.new ≡ unless_refused result (predictor_bytes (updated (predictors_of predictors.old) context).pmv) predictors.old }
     ensures outcome { let context = context_of picture_structure prediction_type_present prediction_type macroblock_motion_forward macroblock_motion_backward macroblock_intra concealment_motion_vectors in
-        outcome.new ≡ unlessRefused result (outcomeNumber (updateOutcome context) ∷ []) outcome.old }
+        outcome.new ≡ unless_refused result (outcome_number (update_outcome context) ∷ []) outcome.old }
 {
     entry_points::vectors::fozdrik_update_predictors(
         picture_structure,
@@ -138,25 +138,25 @@ pub extern "C" fn fozdrik_predict_frame_macroblock(
     backward_vertical: i32,
     out: &mut [u8],
 ) -> u32
-    ensures number { let known = frameKnown chroma_format forward_present forward_format backward_present backward_format forward_motion backward_motion in
-        let dest = geometryOf width height chroma_format in
-        let forward = referenceOf forward_present forward_width forward_height forward_format forward_y_width forward_y_height forward_cb_width forward_cb_height forward_cr_width forward_cr_height in
-        let backward = referenceOf backward_present backward_width backward_height backward_format backward_y_width backward_y_height backward_cb_width backward_cb_height backward_cr_width backward_cr_height in
-        let forward_lengths = lengthsOf (samplesOf forward_y.now forward_cb.now forward_cr.now) in
-        let backward_lengths = lengthsOf (samplesOf backward_y.now backward_cb.now backward_cr.now) in
-        let motion = frameMotionOf forward_motion forward_horizontal forward_vertical backward_motion backward_horizontal backward_vertical in
-        let used = frameUses motion (isPresent forward) (isPresent backward) in
-        let refusal = predictionRefusal dest (length out.old) forward forward_lengths backward backward_lengths used mb_col mb_row in
-        result ≡ or_else (unknownRefusal known) refusal }
-    ensures buffer { let dest = geometryOf width height chroma_format in
-        let forward = referenceOf forward_present forward_width forward_height forward_format forward_y_width forward_y_height forward_cb_width forward_cb_height forward_cr_width forward_cr_height in
-        let backward = referenceOf backward_present backward_width backward_height backward_format backward_y_width backward_y_height backward_cb_width backward_cb_height backward_cr_width backward_cr_height in
-        let motion = frameMotionOf forward_motion forward_horizontal forward_vertical backward_motion backward_horizontal backward_vertical in
-        let used = frameUses motion (isPresent forward) (isPresent backward) in
-        let forward_read = readReference forward (samplesOf forward_y.now forward_cb.now forward_cr.now) in
-        let backward_read = readReference backward (samplesOf backward_y.now backward_cb.now backward_cr.now) in
+    ensures number { let known = frame_known chroma_format forward_present forward_format backward_present backward_format forward_motion backward_motion in
+        let dest = geometry_of width height chroma_format in
+        let forward = reference_of forward_present forward_width forward_height forward_format forward_y_width forward_y_height forward_cb_width forward_cb_height forward_cr_width forward_cr_height in
+        let backward = reference_of backward_present backward_width backward_height backward_format backward_y_width backward_y_height backward_cb_width backward_cb_height backward_cr_width backward_cr_height in
+        let forward_lengths = lengths_of (samples_of forward_y.now forward_cb.now forward_cr.now) in
+        let backward_lengths = lengths_of (samples_of backward_y.now backward_cb.now backward_cr.now) in
+        let motion = frame_motion_of forward_motion forward_horizontal forward_vertical backward_motion backward_horizontal backward_vertical in
+        let used = frame_uses motion (is_present forward) (is_present backward) in
+        let refusal = prediction_refusal dest (length out.old) forward forward_lengths backward backward_lengths used mb_col mb_row in
+        result ≡ or_else (unknown_refusal known) refusal }
+    ensures buffer { let dest = geometry_of width height chroma_format in
+        let forward = reference_of forward_present forward_width forward_height forward_format forward_y_width forward_y_height forward_cb_width forward_cb_height forward_cr_width forward_cr_height in
+        let backward = reference_of backward_present backward_width backward_height backward_format backward_y_width backward_y_height backward_cb_width backward_cb_height backward_cr_width backward_cr_height in
+        let motion = frame_motion_of forward_motion forward_horizontal forward_vertical backward_motion backward_horizontal backward_vertical in
+        let used = frame_uses motion (is_present forward) (is_present backward) in
+        let forward_read = read_reference forward (samples_of forward_y.now forward_cb.now forward_cr.now) in
+        let backward_read = read_reference backward (samples_of backward_y.now backward_cb.now backward_cr.now) in
         let prediction = predicted rounded dest.chroma_format forward_read backward_read used mb_col mb_row in
-        out.new ≡ unlessRefused result prediction out.old }
+        out.new ≡ unless_refused result prediction out.old }
 {
     entry_points::prediction::fozdrik_predict_frame_macroblock(
         width,
@@ -250,29 +250,29 @@ pub extern "C" fn fozdrik_predict_field_macroblock(
     backward_bottom_vertical: i32,
     out: &mut [u8],
 ) -> u32
-    ensures number { let known = fieldKnown chroma_format forward_present forward_format backward_present backward_format forward_motion forward_top_field forward_bottom_field backward_motion backward_top_field backward_bottom_field in
-        let dest = geometryOf width height chroma_format in
-        let forward = referenceOf forward_present forward_width forward_height forward_format forward_y_width forward_y_height forward_cb_width forward_cb_height forward_cr_width forward_cr_height in
-        let backward = referenceOf backward_present backward_width backward_height backward_format backward_y_width backward_y_height backward_cb_width backward_cb_height backward_cr_width backward_cr_height in
-        let forward_lengths = lengthsOf (samplesOf forward_y.now forward_cb.now forward_cr.now) in
-        let backward_lengths = lengthsOf (samplesOf backward_y.now backward_cb.now backward_cr.now) in
-        let motion = fieldMotionOf
+    ensures number { let known = field_known chroma_format forward_present forward_format backward_present backward_format forward_motion forward_top_field forward_bottom_field backward_motion backward_top_field backward_bottom_field in
+        let dest = geometry_of width height chroma_format in
+        let forward = reference_of forward_present forward_width forward_height forward_format forward_y_width forward_y_height forward_cb_width forward_cb_height forward_cr_width forward_cr_height in
+        let backward = reference_of backward_present backward_width backward_height backward_format backward_y_width backward_y_height backward_cb_width backward_cb_height backward_cr_width backward_cr_height in
+        let forward_lengths = lengths_of (samples_of forward_y.now forward_cb.now forward_cr.now) in
+        let backward_lengths = lengths_of (samples_of backward_y.now backward_cb.now backward_cr.now) in
+        let motion = field_motion_of
         forward_motion forward_top_field forward_top_horizontal forward_top_vertical forward_bottom_field forward_bottom_horizontal forward_bottom_vertical
         backward_motion backward_top_field backward_top_horizontal backward_top_vertical backward_bottom_field backward_bottom_horizontal backward_bottom_vertical in
-        let used = fieldUses motion (isPresent forward) (isPresent backward) in
-        let refusal = predictionRefusal dest (length out.old) forward forward_lengths backward backward_lengths used mb_col mb_row in
-        result ≡ or_else (unknownRefusal known) refusal }
-    ensures buffer { let dest = geometryOf width height chroma_format in
-        let forward = referenceOf forward_present forward_width forward_height forward_format forward_y_width forward_y_height forward_cb_width forward_cb_height forward_cr_width forward_cr_height in
-        let backward = referenceOf backward_present backward_width backward_height backward_format backward_y_width backward_y_height backward_cb_width backward_cb_height backward_cr_width backward_cr_height in
-        let motion = fieldMotionOf
+        let used = field_uses motion (is_present forward) (is_present backward) in
+        let refusal = prediction_refusal dest (length out.old) forward forward_lengths backward backward_lengths used mb_col mb_row in
+        result ≡ or_else (unknown_refusal known) refusal }
+    ensures buffer { let dest = geometry_of width height chroma_format in
+        let forward = reference_of forward_present forward_width forward_height forward_format forward_y_width forward_y_height forward_cb_width forward_cb_height forward_cr_width forward_cr_height in
+        let backward = reference_of backward_present backward_width backward_height backward_format backward_y_width backward_y_height backward_cb_width backward_cb_height backward_cr_width backward_cr_height in
+        let motion = field_motion_of
         forward_motion forward_top_field forward_top_horizontal forward_top_vertical forward_bottom_field forward_bottom_horizontal forward_bottom_vertical
         backward_motion backward_top_field backward_top_horizontal backward_top_vertical backward_bottom_field backward_bottom_horizontal backward_bottom_vertical in
-        let used = fieldUses motion (isPresent forward) (isPresent backward) in
-        let forward_read = readReference forward (samplesOf forward_y.now forward_cb.now forward_cr.now) in
-        let backward_read = readReference backward (samplesOf backward_y.now backward_cb.now backward_cr.now) in
+        let used = field_uses motion (is_present forward) (is_present backward) in
+        let forward_read = read_reference forward (samples_of forward_y.now forward_cb.now forward_cr.now) in
+        let backward_read = read_reference backward (samples_of backward_y.now backward_cb.now backward_cr.now) in
         let prediction = predicted rounded dest.chroma_format forward_read backward_read used mb_col mb_row in
-        out.new ≡ unlessRefused result prediction out.old }
+        out.new ≡ unless_refused result prediction out.old }
 {
     entry_points::prediction::fozdrik_predict_field_macroblock(
         width,

@@ -8,7 +8,7 @@ use lib.ListN.{length, take, drop, length-append, replicate, get_or}
 use lib.Seq.{take_at, drop_at, drop-drop, drop-length}
 use borrow.Rule.Slice.PartMut.{put_mid}
 use Rattle.laws.specs.Tabulate.{tabulate}
-use Rattle.laws.proofs.Tabulated.{tab-ext, tab-self}
+use Rattle.laws.proofs.Tabulated.{tab_ext, tab_self}
 use Rattle.laws.proofs.Parts.{part_length, part_at}
 
 -- the buffer o, which was d, has `front` at its front and is as it was behind it
@@ -21,10 +21,10 @@ pub begun_first : (m : ℕ) (ys d : List ℕ) → length ys ≡ m → m ≤ leng
 begun_first m ys d f l = let k : m - 0 ≡ m = omega arith in record { within = omega arith; is = rw (k, f) }
 
 -- after a call wrote ys to &mut o[n..n + m]
-pub begun-part : {front d o : List ℕ} (n m : ℕ) (ys : List ℕ)
+pub begun_part : {front d o : List ℕ} (n m : ℕ) (ys : List ℕ)
     → Begun front d o → length front ≡ n → length ys ≡ m → n + m ≤ length d
     → Begun (front ++ ys) d (put_mid n (n + m - n) o ys)
-begun-part {front} {d} {o} n m ys h e f l =
+begun_part {front} {d} {o} n m ys h e f l =
     let k : n + m - n ≡ m = omega arith in
     let g : length (front ++ ys) ≡ n + m = omega (arith, length-append front ys) in
     record {
@@ -47,25 +47,25 @@ pub begun_all : {front d o : List ℕ} → Begun front d o → length front ≡ 
 begun_all {front} {d} {o} h e = h.is ∙ rw (e, drop-length d) (append-nil front)
 
 -- the length of two parts
-pub append-count : (a b : List ℕ) (n m k : ℕ) → length a ≡ n → length b ≡ m → k ≡ n + m → length (a ++ b) ≡ k
-append-count a b n m k e f g = omega (arith, length-append a b)
+pub append_count : (a b : List ℕ) (n m k : ℕ) → length a ≡ n → length b ≡ m → k ≡ n + m → length (a ++ b) ≡ k
+append_count a b n m k e f g = omega (arith, length-append a b)
 
 -- after a call wrote ys to &mut o[n..], which is all that was left
-pub begun-rest : {front d o : List ℕ} (n : ℕ) (ys : List ℕ)
+pub begun_rest : {front d o : List ℕ} (n : ℕ) (ys : List ℕ)
     → Begun front d o → length front ≡ n → n + length ys ≡ length d
     → put_mid n (length d - n) o ys ≡ front ++ ys
-begun-rest {front} {d} {o} n ys h e f =
-    rw (← f) (begun_all (begun-part n (length ys) ys h e refl (omega arith)) (append-count front ys n (length ys) (length d) e refl (sym f)))
+begun_rest {front} {d} {o} n ys h e f =
+    rw (← f) (begun_all (begun_part n (length ys) ys h e refl (omega arith)) (append_count front ys n (length ys) (length d) e refl (sym f)))
 
 -- ---- the front of a local array, lent as `&mut block[..n]` and then as `&block[..n]`
 abbrev pub blank : ℕ → List ℕ
 blank n = replicate n 0
 
-pub front-is : (n : ℕ) (ys rest : List ℕ) → length ys ≡ n → take n (ys ++ rest) ≡ ys
-front-is n ys rest e = take_at ys rest n e
+pub front_is : (n : ℕ) (ys rest : List ℕ) → length ys ≡ n → take n (ys ++ rest) ≡ ys
+front_is n ys rest e = take_at ys rest n e
 
 -- ---- a part of a slice, as what its reads tabulate
-pub part-tab : (s : List ℕ) (a n : ℕ) → a + n ≤ length s → take (a + n - a) (drop a s) ≡ tabulate n (λ (k : ℕ). get_or s (a + k) 0)
-part-tab s a n h =
+pub part_tab : (s : List ℕ) (a n : ℕ) → a + n ≤ length s → take (a + n - a) (drop a s) ≡ tabulate n (λ (k : ℕ). get_or s (a + k) 0)
+part_tab s a n h =
     let long : length (take (a + n - a) (drop a s)) ≡ n = part_length s a (a + n) h ∙ omega arith in
-    sym (tab-self (take (a + n - a) (drop a s))) ∙ rw long (tab-ext n _ _ (λ k l. part_at s a (a + n) k (omega arith)))
+    sym (tab_self (take (a + n - a) (drop a s))) ∙ rw long (tab_ext n _ _ (λ k l. part_at s a (a + n) k (omega arith)))

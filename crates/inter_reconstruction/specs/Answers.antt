@@ -9,25 +9,25 @@ use Rattle.inter_reconstruction.specs.declared.macroblock.Accepted.{Accepted}
 use Rattle.inter_reconstruction.specs.declared.macroblock.MacroblockPrediction.{MacroblockPrediction}
 use Rattle.inter_reconstruction.specs.declared.macroblock.MacroblockPrediction.TheVariants.{Done, Refused}
 
-abbrev pub predictionNumber : MacroblockPrediction → ℕ
-predictionNumber (Done a) = 0
-predictionNumber (Refused n) = n
+abbrev pub prediction_number : MacroblockPrediction → ℕ
+prediction_number (Done a) = 0
+prediction_number (Refused n) = n
 
-abbrev pub predictionDirections : MacroblockPrediction → Option UsedDirections
-predictionDirections (Done a) = some a.directions
-predictionDirections (Refused n) = none
+abbrev pub prediction_directions : MacroblockPrediction → Option UsedDirections
+prediction_directions (Done a) = some a.directions
+prediction_directions (Refused n) = none
 
 -- the directions that a macroblock is predicted from, without their motion
-abbrev pub directionsOf : Uses → UsedDirections
-directionsOf (Uses.Forward d) = Forward
-directionsOf (Uses.Backward e) = Backward
-directionsOf (Uses.Both d e) = Both
+abbrev pub directions_of : Uses → UsedDirections
+directions_of (Uses.Forward d) = Forward
+directions_of (Uses.Backward e) = Backward
+directions_of (Uses.Both d e) = Both
 
 -- what an accepted answer tells
 abbrev pub accepted : Uses → Accepted
-accepted u = record { directions = directionsOf u }
+accepted u = record { directions = directions_of u }
 
 -- the answer with this number, which tells this where the number is 0
-abbrev pub predictionAnswer : ℕ → Accepted → MacroblockPrediction
-predictionAnswer zero a = Done a
-predictionAnswer (suc n) a = Refused (suc n)
+abbrev pub prediction_answer : ℕ → Accepted → MacroblockPrediction
+prediction_answer zero a = Done a
+prediction_answer (suc n) a = Refused (suc n)

@@ -9,38 +9,38 @@ pub data ColourComponent : Type 0 where
   luma cb cr : ColourComponent
 
 -- of n luminance columns, how many the chrominance has
-abbrev pub chromaColumns : ChromaFormat → ℕ → ℕ
-chromaColumns Yuv420 n = n / 2
-chromaColumns Yuv422 n = n / 2
-chromaColumns Yuv444 n = n
+abbrev pub chroma_columns : ChromaFormat → ℕ → ℕ
+chroma_columns Yuv420 n = n / 2
+chroma_columns Yuv422 n = n / 2
+chroma_columns Yuv444 n = n
 
 -- of n luminance lines
-abbrev pub chromaLines : ChromaFormat → ℕ → ℕ
-chromaLines Yuv420 n = n / 2
-chromaLines Yuv422 n = n
-chromaLines Yuv444 n = n
+abbrev pub chroma_lines : ChromaFormat → ℕ → ℕ
+chroma_lines Yuv420 n = n / 2
+chroma_lines Yuv422 n = n
+chroma_lines Yuv444 n = n
 
-abbrev pub columnsOf : ChromaFormat → ColourComponent → ℕ → ℕ
-columnsOf f luma n = n
-columnsOf f cb n = chromaColumns f n
-columnsOf f cr n = chromaColumns f n
+abbrev pub columns_of : ChromaFormat → ColourComponent → ℕ → ℕ
+columns_of f luma n = n
+columns_of f cb n = chroma_columns f n
+columns_of f cr n = chroma_columns f n
 
 abbrev pub lines_of : ChromaFormat → ColourComponent → ℕ → ℕ
 lines_of f luma n = n
-lines_of f cb n = chromaLines f n
-lines_of f cr n = chromaLines f n
+lines_of f cb n = chroma_lines f n
+lines_of f cr n = chroma_lines f n
 
 -- a macroblock's part in a component's plane: of 16 columns and 16 lines
-abbrev pub blockWidth : ChromaFormat → ColourComponent → ℕ
-blockWidth f c = columnsOf f c 16
+abbrev pub block_width : ChromaFormat → ColourComponent → ℕ
+block_width f c = columns_of f c 16
 
-abbrev pub blockHeight : ChromaFormat → ColourComponent → ℕ
-blockHeight f c = lines_of f c 16
+abbrev pub block_height : ChromaFormat → ColourComponent → ℕ
+block_height f c = lines_of f c 16
 
 -- how many samples that are
-abbrev pub blockBytes : ChromaFormat → ColourComponent → ℕ
-blockBytes f c = blockWidth f c * blockHeight f c
+abbrev pub block_bytes : ChromaFormat → ColourComponent → ℕ
+block_bytes f c = block_width f c * block_height f c
 
 -- a macroblock's bytes: luminance, then Cb, then Cr
-abbrev pub macroblockBytes : ChromaFormat → ℕ
-macroblockBytes f = blockBytes f luma + (blockBytes f cb + blockBytes f cr)
+abbrev pub macroblock_bytes : ChromaFormat → ℕ
+macroblock_bytes f = block_bytes f luma + (block_bytes f cb + block_bytes f cr)

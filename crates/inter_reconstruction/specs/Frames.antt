@@ -1,7 +1,7 @@
 -- A frame, by component: the sides of its planes, and what is read of them.
 -- The scope (docs/SCOPE.md): planes carry their own sides, and these say what is read. Nothing here is the standard's.
 use Rattle.std.specs.Prelude.{Bool, true, false, List, ℕ, ℤ, length}
-use Rattle.forming_predictions.specs.Lines.{Lines, sampleAt}
+use Rattle.forming_predictions.specs.Lines.{Lines, sample_at}
 use Rattle.forming_predictions.specs.declared.ReferencePlane.{ReferencePlane}
 use Rattle.inter_reconstruction.specs.Components.{ColourComponent, luma, cb, cr}
 use Rattle.inter_reconstruction.specs.declared.frames.FrameBuffer.{FrameBuffer}
@@ -12,36 +12,36 @@ use Rattle.inter_reconstruction.specs.declared.frames.ReferenceFrame.TheVariants
 abbrev pub Samples : Type 0
 Samples = ColourComponent → List ℕ
 
-abbrev pub samplesOf : List ℕ → List ℕ → List ℕ → Samples
-samplesOf y b r luma = y
-samplesOf y b r cb = b
-samplesOf y b r cr = r
+abbrev pub samples_of : List ℕ → List ℕ → List ℕ → Samples
+samples_of y b r luma = y
+samples_of y b r cb = b
+samples_of y b r cr = r
 
-abbrev pub lengthsOf : Samples → ColourComponent → ℕ
-lengthsOf s c = length (s c)
+abbrev pub lengths_of : Samples → ColourComponent → ℕ
+lengths_of s c = length (s c)
 
 -- the sides of a component's plane
-abbrev pub planeOf : FrameBuffer → ColourComponent → ReferencePlane
-planeOf b luma = b.y
-planeOf b cb = b.cb
-planeOf b cr = b.cr
+abbrev pub plane_of : FrameBuffer → ColourComponent → ReferencePlane
+plane_of b luma = b.y
+plane_of b cb = b.cb
+plane_of b cr = b.cr
 
-abbrev pub isPresent : ReferenceFrame → Bool
-isPresent Absent = false
-isPresent (Present b) = true
+abbrev pub is_present : ReferenceFrame → Bool
+is_present Absent = false
+is_present (Present b) = true
 
 -- a plane as it is read: the sample at (x, y) of the frame's lines or of a field's
 abbrev pub PlaneReading : Type 0
 PlaneReading = Lines → ℤ → ℤ → ℕ
 
-abbrev pub readPlane : ReferencePlane → List ℕ → PlaneReading
-readPlane p samples l = sampleAt l p.width p.height samples
+abbrev pub read_plane : ReferencePlane → List ℕ → PlaneReading
+read_plane p samples l = sample_at l p.width p.height samples
 
 -- a frame's planes
-abbrev pub readFrame : FrameBuffer → Samples → ColourComponent → PlaneReading
-readFrame b s c = readPlane (planeOf b c) (s c)
+abbrev pub read_frame : FrameBuffer → Samples → ColourComponent → PlaneReading
+read_frame b s c = read_plane (plane_of b c) (s c)
 
 -- a reference's; of one that is absent nothing is ever read
-abbrev pub readReference : ReferenceFrame → Samples → ColourComponent → PlaneReading
-readReference Absent s c = λ (l : Lines) (x y : ℤ). 0
-readReference (Present b) s c = readFrame b s c
+abbrev pub read_reference : ReferenceFrame → Samples → ColourComponent → PlaneReading
+read_reference Absent s c = λ (l : Lines) (x y : ℤ). 0
+read_reference (Present b) s c = read_frame b s c

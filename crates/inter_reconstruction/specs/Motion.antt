@@ -3,7 +3,7 @@
 -- in every picture; with motion in both directions and one reference, that one alone, by its own vectors.
 use Rattle.std.specs.Prelude.{Bool, ℕ, zero, suc, pos, true, false}
 use Rattle.forming_predictions.specs.declared.FieldParity.TheVariants.{Top, Bottom}
-use Rattle.pmv.specs.Chroma.{chromaHorizontal, chromaVertical}
+use Rattle.pmv.specs.Chroma.{chroma_horizontal, chroma_vertical}
 use Rattle.pmv.specs.declared.kinds.ChromaFormat.{ChromaFormat}
 use Rattle.inter_reconstruction.specs.Components.{ColourComponent, luma, cb, cr}
 use Rattle.inter_reconstruction.specs.declared.motion.MotionVectorPel.{MotionVectorPel}
@@ -22,24 +22,24 @@ use Rattle.inter_reconstruction.specs.declared.motion.Uses.TheVariants.{Forward,
 
 -- ---- which directions are used
 
-abbrev pub zeroVector : MotionVectorPel
-zeroVector = record { horizontal = pos 0; vertical = pos 0 }
+abbrev pub zero_vector : MotionVectorPel
+zero_vector = record { horizontal = pos 0; vertical = pos 0 }
 
 -- each field reads its own parity
-abbrev pub zeroPair : FieldVectorPair
-zeroPair =
+abbrev pub zero_pair : FieldVectorPair
+zero_pair =
     record {
-      top = record { vector = zeroVector; reference_field = Top };
-      bottom = record { vector = zeroVector; reference_field = Bottom };
+      top = record { vector = zero_vector; reference_field = Top };
+      bottom = record { vector = zero_vector; reference_field = Bottom };
     }
 
-abbrev pub frameDirection : FrameDirection → OptionDirectionMotion
-frameDirection FrameDirection.Absent = None
-frameDirection (FrameDirection.Present v) = Some (Frame v)
+abbrev pub frame_direction : FrameDirection → OptionDirectionMotion
+frame_direction FrameDirection.Absent = None
+frame_direction (FrameDirection.Present v) = Some (Frame v)
 
-abbrev pub fieldDirection : FieldDirection → OptionDirectionMotion
-fieldDirection FieldDirection.Absent = None
-fieldDirection (FieldDirection.Present p) = Some (Field p)
+abbrev pub field_direction : FieldDirection → OptionDirectionMotion
+field_direction FieldDirection.Absent = None
+field_direction (FieldDirection.Present p) = Some (Field p)
 
 -- the directions that have motion. Without motion in either (7.6.3.5) it is the forward one, by zero vectors, `still`.
 abbrev pub wanted : DirectionMotion → OptionDirectionMotion → OptionDirectionMotion → Uses
@@ -68,44 +68,44 @@ BackwardAlone (Both d e) = ⊥
 abbrev pub uses : DirectionMotion → OptionDirectionMotion → OptionDirectionMotion → Bool → Bool → Uses
 uses still d e = remaining (wanted still d e)
 
-abbrev pub frameWanted : FrameMotion → Uses
-frameWanted m = wanted (Frame zeroVector) (frameDirection m.forward) (frameDirection m.backward)
+abbrev pub frame_wanted : FrameMotion → Uses
+frame_wanted m = wanted (Frame zero_vector) (frame_direction m.forward) (frame_direction m.backward)
 
-abbrev pub fieldWanted : FieldBasedMotion → Uses
-fieldWanted m = wanted (Field zeroPair) (fieldDirection m.forward) (fieldDirection m.backward)
+abbrev pub field_wanted : FieldBasedMotion → Uses
+field_wanted m = wanted (Field zero_pair) (field_direction m.forward) (field_direction m.backward)
 
-abbrev pub frameUses : FrameMotion → Bool → Bool → Uses
-frameUses m = uses (Frame zeroVector) (frameDirection m.forward) (frameDirection m.backward)
+abbrev pub frame_uses : FrameMotion → Bool → Bool → Uses
+frame_uses m = uses (Frame zero_vector) (frame_direction m.forward) (frame_direction m.backward)
 
-abbrev pub fieldUses : FieldBasedMotion → Bool → Bool → Uses
-fieldUses m = uses (Field zeroPair) (fieldDirection m.forward) (fieldDirection m.backward)
+abbrev pub field_uses : FieldBasedMotion → Bool → Bool → Uses
+field_uses m = uses (Field zero_pair) (field_direction m.forward) (field_direction m.backward)
 
 -- ---- 7.6.3.7: the vectors of the chrominance
 
-abbrev pub chromaVector : ChromaFormat → MotionVectorPel → MotionVectorPel
-chromaVector f v = record { horizontal = chromaHorizontal f v.horizontal; vertical = chromaVertical f v.vertical }
+abbrev pub chroma_vector : ChromaFormat → MotionVectorPel → MotionVectorPel
+chroma_vector f v = record { horizontal = chroma_horizontal f v.horizontal; vertical = chroma_vertical f v.vertical }
 
-abbrev pub chromaField : ChromaFormat → FieldVector → FieldVector
-chromaField f u = record { vector = chromaVector f u.vector; reference_field = u.reference_field }
+abbrev pub chroma_field : ChromaFormat → FieldVector → FieldVector
+chroma_field f u = record { vector = chroma_vector f u.vector; reference_field = u.reference_field }
 
-abbrev pub chromaMotion : ChromaFormat → DirectionMotion → DirectionMotion
-chromaMotion f (Frame v) = Frame (chromaVector f v)
-chromaMotion f (Field p) = Field (record { top = chromaField f p.top; bottom = chromaField f p.bottom })
+abbrev pub chroma_motion : ChromaFormat → DirectionMotion → DirectionMotion
+chroma_motion f (Frame v) = Frame (chroma_vector f v)
+chroma_motion f (Field p) = Field (record { top = chroma_field f p.top; bottom = chroma_field f p.bottom })
 
-abbrev pub chromaUses : ChromaFormat → Uses → Uses
-chromaUses f (Forward d) = Forward (chromaMotion f d)
-chromaUses f (Backward e) = Backward (chromaMotion f e)
-chromaUses f (Both d e) = Both (chromaMotion f d) (chromaMotion f e)
+abbrev pub chroma_uses : ChromaFormat → Uses → Uses
+chroma_uses f (Forward d) = Forward (chroma_motion f d)
+chroma_uses f (Backward e) = Backward (chroma_motion f e)
+chroma_uses f (Both d e) = Both (chroma_motion f d) (chroma_motion f e)
 
 -- for each component
-abbrev pub usesOf : ChromaFormat → Uses → ColourComponent → Uses
-usesOf f u luma = u
-usesOf f u cb = chromaUses f u
-usesOf f u cr = chromaUses f u
+abbrev pub uses_of : ChromaFormat → Uses → ColourComponent → Uses
+uses_of f u luma = u
+uses_of f u cb = chroma_uses f u
+uses_of f u cr = chroma_uses f u
 
 -- ---- 7.6.4, 7.6.5: the fields of a macroblock
 
 -- a field's vector, by a frame row's number modulo 2: even rows are the top field's
-abbrev pub fieldVectorOf : FieldVectorPair → ℕ → FieldVector
-fieldVectorOf p zero = p.top
-fieldVectorOf p (suc n) = p.bottom
+abbrev pub field_vector_of : FieldVectorPair → ℕ → FieldVector
+field_vector_of p zero = p.top
+field_vector_of p (suc n) = p.bottom

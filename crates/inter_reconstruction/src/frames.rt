@@ -1,7 +1,7 @@
 //! Frames as the calls see them: numbers here, and the samples of the three planes passed beside them.
 ghost use Rattle.std.specs.Prelude.{◌≡◌};
-ghost use Rattle.inter_reconstruction.specs.Components.{blockWidth, blockHeight, cb};
-ghost use Rattle.inter_reconstruction.specs.Frames.{isPresent};
+ghost use Rattle.inter_reconstruction.specs.Components.{block_width, block_height, cb};
+ghost use Rattle.inter_reconstruction.specs.Frames.{is_present};
 
 use forming_predictions::{BlockSize, ReferencePlane};
 use pmv::kinds::ChromaFormat;
@@ -33,7 +33,7 @@ pub enum ReferenceFrame {
 impl ReferenceFrame {
     /// Whether there is one.
     pub fn is_present(self) -> bool
-        ensures { result ≡ isPresent self }
+        ensures { result ≡ is_present self }
     {
         match self {
             ReferenceFrame::Absent => false,
@@ -44,7 +44,7 @@ impl ReferenceFrame {
 
 /// The sides of a macroblock's part in a chrominance plane.
 pub fn chroma_mb_extent(chroma_format: ChromaFormat) -> BlockSize
-    ensures { (result.width ≡ blockWidth chroma_format cb) × (result.height ≡ blockHeight chroma_format cb) }
+    ensures { (result.width ≡ block_width chroma_format cb) × (result.height ≡ block_height chroma_format cb) }
 {
     match chroma_format {
         ChromaFormat::Yuv420 => BlockSize {

@@ -2,18 +2,18 @@
 ghost use Rattle.std.specs.Prelude.{◌≡◌, ◌++◌, ◌+◌, ◌*◌, ◌%◌, ◌≤◌, ◌<◌, length, false};
 ghost use Rattle.std.proofs.Math.Option.{some};
 ghost use Rattle.laws.specs.Tabulate.{tabulate};
-ghost use Rattle.combine_predictions.specs.Refusals.{unlessRefused};
+ghost use Rattle.combine_predictions.specs.Refusals.{unless_refused};
 ghost use Rattle.forming_predictions.specs.Means.{rounded};
 ghost use Rattle.inter_reconstruction.specs.declared.motion.DirectionMotion.TheVariants.{Frame, Field};
 ghost use Rattle.inter_reconstruction.specs.declared.motion.Uses.TheVariants.{Both};
 ghost use Rattle.inter_reconstruction.specs.Components.{ColourComponent};
-ghost use Rattle.inter_reconstruction.specs.Motion.{frameWanted, fieldWanted, frameUses, fieldUses, fieldVectorOf, BackwardAlone};
-ghost use Rattle.inter_reconstruction.specs.Frames.{readPlane, samplesOf, readFrame, lengthsOf, isPresent, readReference};
-ghost use Rattle.inter_reconstruction.specs.Macroblock.{fieldSample, directionSample, usedSample, rectangle, predicted};
-ghost use Rattle.inter_reconstruction.specs.Refusals.{backwardMissing, sameGeometry, planesFit, oneRefusal, referencesRefusal, predictionRefusal};
-ghost use Rattle.inter_reconstruction.specs.Answers.{accepted, directionsOf, predictionAnswer, predictionDirections, predictionNumber};
-ghost use Rattle.inter_reconstruction.specs.inner.Blocks.{PlaneFits, BlockAt, FieldRows, HalvesAt, fieldHalves, interleavedCell, forwardBytes};
-ghost use Rattle.inter_reconstruction.specs.inner.Planes.{FrameFits, CellFits, BlocksFit, directedPart, directed, chromaBlocks, frameRefusal, framesRefusal, missingIn, destinationRefusal};
+ghost use Rattle.inter_reconstruction.specs.Motion.{frame_wanted, field_wanted, frame_uses, field_uses, field_vector_of, BackwardAlone};
+ghost use Rattle.inter_reconstruction.specs.Frames.{read_plane, samples_of, read_frame, lengths_of, is_present, read_reference};
+ghost use Rattle.inter_reconstruction.specs.Macroblock.{field_sample, direction_sample, used_sample, rectangle, predicted};
+ghost use Rattle.inter_reconstruction.specs.Refusals.{backward_missing, same_geometry, planes_fit, one_refusal, references_refusal, prediction_refusal};
+ghost use Rattle.inter_reconstruction.specs.Answers.{accepted, directions_of, prediction_answer, prediction_directions, prediction_number};
+ghost use Rattle.inter_reconstruction.specs.inner.Blocks.{PlaneFits, BlockAt, FieldRows, HalvesAt, field_halves, interleaved_cell, forward_bytes};
+ghost use Rattle.inter_reconstruction.specs.inner.Planes.{FrameFits, CellFits, BlocksFit, directed_part, directed, chroma_blocks, frame_refusal, frames_refusal, missing_in, destination_refusal};
 
 use crate::frames::{FrameBuffer, FrameGeometry, ReferenceFrame, chroma_mb_extent};
 use crate::motion::{
@@ -71,7 +71,7 @@ fn predict_rows(
     out: &mut [u8],
 )
     requires { PlaneFits plane samples.now × BlockAt x y width height (length out.old) }
-    ensures { out.new ≡ rectangle width height (directionSample rounded (readPlane plane samples.now) (Frame v)) x y }
+    ensures { out.new ≡ rectangle width height (direction_sample rounded (read_plane plane samples.now) (Frame v)) x y }
 {
     predict_block(
         plane,
@@ -100,7 +100,7 @@ fn predict_lines(
     out: &mut [u8],
 )
     requires { PlaneFits plane samples.now × BlockAt x line width height (length out.old) }
-    ensures { out.new ≡ rectangle width height (fieldSample rounded (readPlane plane samples.now) u) x line }
+    ensures { out.new ≡ rectangle width height (field_sample rounded (read_plane plane samples.now) u) x line }
 {
     let v = u.vector;
     let reference_field = u.reference_field;
@@ -137,7 +137,7 @@ fn copy_row(from: &[u8], out: &mut [u8])
 /// Two field blocks of `half` rows, one after the other, become the rows of a frame: a row of the one, a row of the other.
 fn interleave(halves: &[u8], width: usize, half: usize, out: &mut [u8])
     requires { (width ≤ 16) × (half ≤ 8) × (length halves.now ≡ width * (half + half)) × (length out.old ≡ width * (half + half)) × (0 < width) × (width % 8 ≡ 0) }
-    ensures { out.new ≡ tabulate (width * (half + half)) (interleavedCell halves.now width half) }
+    ensures { out.new ≡ tabulate (width * (half + half)) (interleaved_cell halves.now width half) }
 {
     let height = half + half;
     let mut r: usize = 0;
@@ -153,7 +153,7 @@ fn interleave(halves: &[u8], width: usize, half: usize, out: &mut [u8])
 
 /// The vector of a macroblock's field, the top one for 0.
 fn vector_of(pair: FieldVectorPair, field: usize) -> FieldVector
-    ensures { result ≡ fieldVectorOf pair field }
+    ensures { result ≡ field_vector_of pair field }
 {
     if field == 0 {
         return pair.top;
@@ -174,7 +174,7 @@ fn predict_halves(
     out: &mut [u8],
 )
     requires { PlaneFits plane samples.now × HalvesAt x line width height (length out.old) }
-    ensures { out.new ≡ fieldHalves (readPlane plane samples.now) pair width height x line }
+    ensures { out.new ≡ field_halves (read_plane plane samples.now) pair width height x line }
 {
     let n = width * height;
     let mut f: usize = 0;
@@ -207,7 +207,7 @@ fn predict_fields(
     out: &mut [u8],
 )
     requires { PlaneFits plane samples.now × BlockAt x y width height (length out.old) × FieldRows y height }
-    ensures { out.new ≡ rectangle width height (directionSample rounded (readPlane plane samples.now) (Field pair)) x y }
+    ensures { out.new ≡ rectangle width height (direction_sample rounded (read_plane plane samples.now) (Field pair)) x y }
 {
     let mut halves = [0u8; 256];
     let n = width * height;
@@ -237,7 +237,7 @@ fn predict_direction(
     out: &mut [u8],
 )
     requires { PlaneFits plane samples.now × BlockAt x y width height (length out.old) × FieldRows y height }
-    ensures { out.new ≡ rectangle width height (directionSample rounded (readPlane plane samples.now) motion) x y }
+    ensures { out.new ≡ rectangle width height (direction_sample rounded (read_plane plane samples.now) motion) x y }
 {
     match motion {
         DirectionMotion::Frame(v) => predict_rows(plane, samples, x, y, width, height, v, out),
@@ -249,7 +249,7 @@ fn predict_direction(
 
 /// How many bytes a block of n has of the forward prediction, where there is one direction alone.
 fn forward_bytes(direction: PredictionDirection, n: usize) -> usize
-    ensures { result ≡ forwardBytes direction n }
+    ensures { result ≡ forward_bytes direction n }
 {
     match direction {
         PredictionDirection::Forward => n,
@@ -284,7 +284,7 @@ fn predict_two(
     out: &mut [u8],
 )
     requires { PlaneFits forward forward_samples.now × PlaneFits backward backward_samples.now × BlockAt x y width height (length out.old) × FieldRows y height }
-    ensures { out.new ≡ rectangle width height (usedSample rounded (readPlane forward forward_samples.now) (readPlane backward backward_samples.now) (Both forward_motion backward_motion)) x y }
+    ensures { out.new ≡ rectangle width height (used_sample rounded (read_plane forward forward_samples.now) (read_plane backward backward_samples.now) (Both forward_motion backward_motion)) x y }
 {
     let mut first = [0u8; 256];
     let mut second = [0u8; 256];
@@ -328,10 +328,10 @@ fn predict_blocks(
     cb_block: &mut [u8],
     cr_block: &mut [u8],
 )
-    requires { FrameFits frame (samplesOf y.now cb.now cr.now) × BlocksFit chroma_format mb_col mb_row (length y_block.old) (length cb_block.old) (length cr_block.old) }
-    ensures y_block_at_exit { y_block.new ≡ directedPart chroma_format (readFrame frame (samplesOf y.now cb.now cr.now)) motion ColourComponent.luma mb_col mb_row }
-    ensures cb_block_at_exit { cb_block.new ≡ directedPart chroma_format (readFrame frame (samplesOf y.now cb.now cr.now)) motion ColourComponent.cb mb_col mb_row }
-    ensures cr_block_at_exit { cr_block.new ≡ directedPart chroma_format (readFrame frame (samplesOf y.now cb.now cr.now)) motion ColourComponent.cr mb_col mb_row }
+    requires { FrameFits frame (samples_of y.now cb.now cr.now) × BlocksFit chroma_format mb_col mb_row (length y_block.old) (length cb_block.old) (length cr_block.old) }
+    ensures y_block_at_exit { y_block.new ≡ directed_part chroma_format (read_frame frame (samples_of y.now cb.now cr.now)) motion ColourComponent.luma mb_col mb_row }
+    ensures cb_block_at_exit { cb_block.new ≡ directed_part chroma_format (read_frame frame (samples_of y.now cb.now cr.now)) motion ColourComponent.cb mb_col mb_row }
+    ensures cr_block_at_exit { cr_block.new ≡ directed_part chroma_format (read_frame frame (samples_of y.now cb.now cr.now)) motion ColourComponent.cr mb_col mb_row }
 {
     let size = chroma_mb_extent(chroma_format);
     let width = size.width;
@@ -383,8 +383,8 @@ fn predict_from_one(
     mb_row: usize,
     out: &mut [u8],
 )
-    requires { FrameFits frame (samplesOf y.now cb.now cr.now) × CellFits chroma_format mb_col mb_row (length out.old) }
-    ensures { out.new ≡ directed chroma_format (readFrame frame (samplesOf y.now cb.now cr.now)) motion mb_col mb_row }
+    requires { FrameFits frame (samples_of y.now cb.now cr.now) × CellFits chroma_format mb_col mb_row (length out.old) }
+    ensures { out.new ≡ directed chroma_format (read_frame frame (samples_of y.now cb.now cr.now)) motion mb_col mb_row }
 {
     let size = chroma_mb_extent(chroma_format);
     let n = size.width * size.height;
@@ -429,7 +429,7 @@ fn predict_chroma(
 )
     requires plane_fits { PlaneFits forward_cb_plane forward_cb.now × PlaneFits forward_cr_plane forward_cr.now × PlaneFits backward_cb_plane backward_cb.now × PlaneFits backward_cr_plane backward_cr.now }
     requires halves_at { HalvesAt x y width height (length out.old) × FieldRows y height }
-    ensures { out.new ≡ chromaBlocks (readPlane forward_cb_plane forward_cb.now) (readPlane forward_cr_plane forward_cr.now) (readPlane backward_cb_plane backward_cb.now) (readPlane backward_cr_plane backward_cr.now) (Both forward_motion backward_motion) width height x y }
+    ensures { out.new ≡ chroma_blocks (read_plane forward_cb_plane forward_cb.now) (read_plane forward_cr_plane forward_cr.now) (read_plane backward_cb_plane backward_cb.now) (read_plane backward_cr_plane backward_cr.now) (Both forward_motion backward_motion) width height x y }
 {
     let n = width * height;
     let e = n + n;
@@ -478,8 +478,8 @@ fn predict_from_two(
     mb_row: usize,
     out: &mut [u8],
 )
-    requires { FrameFits forward (samplesOf forward_y.now forward_cb.now forward_cr.now) × FrameFits backward (samplesOf backward_y.now backward_cb.now backward_cr.now) × CellFits chroma_format mb_col mb_row (length out.old) }
-    ensures { out.new ≡ predicted rounded chroma_format (readFrame forward (samplesOf forward_y.now forward_cb.now forward_cr.now)) (readFrame backward (samplesOf backward_y.now backward_cb.now backward_cr.now)) (Both forward_motion backward_motion) mb_col mb_row }
+    requires { FrameFits forward (samples_of forward_y.now forward_cb.now forward_cr.now) × FrameFits backward (samples_of backward_y.now backward_cb.now backward_cr.now) × CellFits chroma_format mb_col mb_row (length out.old) }
+    ensures { out.new ≡ predicted rounded chroma_format (read_frame forward (samples_of forward_y.now forward_cb.now forward_cr.now)) (read_frame backward (samples_of backward_y.now backward_cb.now backward_cr.now)) (Both forward_motion backward_motion) mb_col mb_row }
 {
     let size = chroma_mb_extent(chroma_format);
     let width = size.width;
@@ -528,7 +528,7 @@ fn predict_from_two(
 // ---- the calls, with all that they refuse
 
 fn answer_of(number: u8, told: Accepted) -> MacroblockPrediction
-    ensures { result ≡ predictionAnswer number told }
+    ensures { result ≡ prediction_answer number told }
 {
     if number == 0 {
         return MacroblockPrediction::Done(told);
@@ -537,7 +537,7 @@ fn answer_of(number: u8, told: Accepted) -> MacroblockPrediction
 }
 
 fn same_geometry(a: FrameGeometry, b: FrameGeometry) -> bool
-    ensures { result ≡ sameGeometry a b }
+    ensures { result ≡ same_geometry a b }
 {
     let f = a.chroma_format;
     let g = b.chroma_format;
@@ -546,7 +546,7 @@ fn same_geometry(a: FrameGeometry, b: FrameGeometry) -> bool
 
 /// Each plane of a frame is in the domain: no side is too long, and it has as many samples as its sides say.
 pub fn planes_fit(frame: FrameBuffer, y: &[u8], cb: &[u8], cr: &[u8]) -> bool
-    ensures { result ≡ planesFit frame (lengthsOf (samplesOf y.now cb.now cr.now)) }
+    ensures { result ≡ planes_fit frame (lengths_of (samples_of y.now cb.now cr.now)) }
 {
     let y_plane = frame.y;
     let cb_plane = frame.cb;
@@ -568,8 +568,8 @@ fn predict_with_one(
     out: &mut [u8],
 ) -> u8
     requires { CellFits dest.chroma_format mb_col mb_row (length out.old) }
-    ensures number { result ≡ frameRefusal dest frame (lengthsOf (samplesOf y.now cb.now cr.now)) }
-    ensures buffer { out.new ≡ unlessRefused result (directed dest.chroma_format (readFrame frame (samplesOf y.now cb.now cr.now)) motion mb_col mb_row) out.old }
+    ensures number { result ≡ frame_refusal dest frame (lengths_of (samples_of y.now cb.now cr.now)) }
+    ensures buffer { out.new ≡ unless_refused result (directed dest.chroma_format (read_frame frame (samples_of y.now cb.now cr.now)) motion mb_col mb_row) out.old }
 {
     let declared = frame.geometry;
     if !same_geometry(declared, dest) {
@@ -596,7 +596,7 @@ fn predict_with_one(
 
 /// The refusal of a direction whose reference is absent.
 fn missing_in(direction: PredictionDirection) -> u8
-    ensures { result ≡ missingIn direction }
+    ensures { result ≡ missing_in direction }
 {
     match direction {
         PredictionDirection::Forward => FORWARD_MISSING,
@@ -619,8 +619,8 @@ fn predict_alone(
     out: &mut [u8],
 ) -> u8
     requires { CellFits dest.chroma_format mb_col mb_row (length out.old) }
-    ensures number { result ≡ oneRefusal (missingIn direction) dest reference (lengthsOf (samplesOf y.now cb.now cr.now)) }
-    ensures buffer { out.new ≡ unlessRefused result (directed dest.chroma_format (readReference reference (samplesOf y.now cb.now cr.now)) motion mb_col mb_row) out.old }
+    ensures number { result ≡ one_refusal (missing_in direction) dest reference (lengths_of (samples_of y.now cb.now cr.now)) }
+    ensures buffer { out.new ≡ unless_refused result (directed dest.chroma_format (read_reference reference (samples_of y.now cb.now cr.now)) motion mb_col mb_row) out.old }
 {
     match reference {
         ReferenceFrame::Absent => missing_in(direction),
@@ -648,8 +648,8 @@ fn predict_with_two(
     out: &mut [u8],
 ) -> u8
     requires { CellFits dest.chroma_format mb_col mb_row (length out.old) }
-    ensures number { result ≡ framesRefusal dest forward (lengthsOf (samplesOf forward_y.now forward_cb.now forward_cr.now)) backward (lengthsOf (samplesOf backward_y.now backward_cb.now backward_cr.now)) }
-    ensures buffer { out.new ≡ unlessRefused result (predicted rounded dest.chroma_format (readFrame forward (samplesOf forward_y.now forward_cb.now forward_cr.now)) (readFrame backward (samplesOf backward_y.now backward_cb.now backward_cr.now)) (Both forward_motion backward_motion) mb_col mb_row) out.old }
+    ensures number { result ≡ frames_refusal dest forward (lengths_of (samples_of forward_y.now forward_cb.now forward_cr.now)) backward (lengths_of (samples_of backward_y.now backward_cb.now backward_cr.now)) }
+    ensures buffer { out.new ≡ unless_refused result (predicted rounded dest.chroma_format (read_frame forward (samples_of forward_y.now forward_cb.now forward_cr.now)) (read_frame backward (samples_of backward_y.now backward_cb.now backward_cr.now)) (Both forward_motion backward_motion) mb_col mb_row) out.old }
 {
     let forward_declared = forward.geometry;
     if !same_geometry(forward_declared, dest) {
@@ -703,8 +703,8 @@ fn predict_both(
     out: &mut [u8],
 ) -> u8
     requires { CellFits dest.chroma_format mb_col mb_row (length out.old) }
-    ensures number { result ≡ referencesRefusal dest forward (lengthsOf (samplesOf forward_y.now forward_cb.now forward_cr.now)) backward (lengthsOf (samplesOf backward_y.now backward_cb.now backward_cr.now)) (Both forward_motion backward_motion) }
-    ensures buffer { out.new ≡ unlessRefused result (predicted rounded dest.chroma_format (readReference forward (samplesOf forward_y.now forward_cb.now forward_cr.now)) (readReference backward (samplesOf backward_y.now backward_cb.now backward_cr.now)) (Both forward_motion backward_motion) mb_col mb_row) out.old }
+    ensures number { result ≡ references_refusal dest forward (lengths_of (samples_of forward_y.now forward_cb.now forward_cr.now)) backward (lengths_of (samples_of backward_y.now backward_cb.now backward_cr.now)) (Both forward_motion backward_motion) }
+    ensures buffer { out.new ≡ unless_refused result (predicted rounded dest.chroma_format (read_reference forward (samples_of forward_y.now forward_cb.now forward_cr.now)) (read_reference backward (samples_of backward_y.now backward_cb.now backward_cr.now)) (Both forward_motion backward_motion) mb_col mb_row) out.old }
 {
     match forward {
         ReferenceFrame::Absent => FORWARD_MISSING,
@@ -732,7 +732,7 @@ fn predict_both(
 
 /// 13, then 18.
 fn destination_refusal(dest: FrameGeometry, mb_col: usize, mb_row: usize, room: usize) -> u8
-    ensures { result ≡ destinationRefusal dest room mb_col mb_row }
+    ensures { result ≡ destination_refusal dest room mb_col mb_row }
 {
     if (LAST_CELL < mb_col) | (LAST_CELL < mb_row) {
         return CELL_TOO_FAR;
@@ -764,27 +764,27 @@ pub fn predict_frame_macroblock_planes(
     motion: FrameMotion,
     out: &mut [u8],
 ) -> MacroblockPrediction
-    ensures answer { let used = frameUses motion (isPresent forward) (isPresent backward) in
-        let forward_lengths = lengthsOf (samplesOf forward_y.now forward_cb.now forward_cr.now) in
-        let backward_lengths = lengthsOf (samplesOf backward_y.now backward_cb.now backward_cr.now) in
-        let refusal = predictionRefusal dest (length out.old) forward forward_lengths backward backward_lengths used mb_col mb_row in
-        result ≡ predictionAnswer refusal (accepted used) }
-    ensures directions { let used = frameUses motion (isPresent forward) (isPresent backward) in
-        predictionNumber result ≡ 0 → predictionDirections result ≡ some (directionsOf used) }
-    ensures buffer { let used = frameUses motion (isPresent forward) (isPresent backward) in
-        let forward_read = readReference forward (samplesOf forward_y.now forward_cb.now forward_cr.now) in
-        let backward_read = readReference backward (samplesOf backward_y.now backward_cb.now backward_cr.now) in
+    ensures answer { let used = frame_uses motion (is_present forward) (is_present backward) in
+        let forward_lengths = lengths_of (samples_of forward_y.now forward_cb.now forward_cr.now) in
+        let backward_lengths = lengths_of (samples_of backward_y.now backward_cb.now backward_cr.now) in
+        let refusal = prediction_refusal dest (length out.old) forward forward_lengths backward backward_lengths used mb_col mb_row in
+        result ≡ prediction_answer refusal (accepted used) }
+    ensures directions { let used = frame_uses motion (is_present forward) (is_present backward) in
+        prediction_number result ≡ 0 → prediction_directions result ≡ some (directions_of used) }
+    ensures buffer { let used = frame_uses motion (is_present forward) (is_present backward) in
+        let forward_read = read_reference forward (samples_of forward_y.now forward_cb.now forward_cr.now) in
+        let backward_read = read_reference backward (samples_of backward_y.now backward_cb.now backward_cr.now) in
         let prediction = predicted rounded dest.chroma_format forward_read backward_read used mb_col mb_row in
-        out.new ≡ unlessRefused (predictionNumber result) prediction out.old }
+        out.new ≡ unless_refused (prediction_number result) prediction out.old }
 
     // Samples given by the directions that have motion, where nothing of these is refused, are as they would be by these alone.
-    ensures unchanged { let wanted = frameWanted motion in
-        let forward_samples = samplesOf forward_y.now forward_cb.now forward_cr.now in
-        let backward_samples = samplesOf backward_y.now backward_cb.now backward_cr.now in
-        let refusal = predictionRefusal dest (length out.old) forward (lengthsOf forward_samples) backward (lengthsOf backward_samples) wanted mb_col mb_row in
-        let prediction = predicted rounded dest.chroma_format (readReference forward forward_samples) (readReference backward backward_samples) wanted mb_col mb_row in
-        refusal ≡ 0 → (result ≡ predictionAnswer 0 (accepted wanted)) × (out.new ≡ prediction) }
-    ensures backward_alone { predictionNumber result ≡ backwardMissing → BackwardAlone (frameWanted motion) × (isPresent backward ≡ false) }
+    ensures unchanged { let wanted = frame_wanted motion in
+        let forward_samples = samples_of forward_y.now forward_cb.now forward_cr.now in
+        let backward_samples = samples_of backward_y.now backward_cb.now backward_cr.now in
+        let refusal = prediction_refusal dest (length out.old) forward (lengths_of forward_samples) backward (lengths_of backward_samples) wanted mb_col mb_row in
+        let prediction = predicted rounded dest.chroma_format (read_reference forward forward_samples) (read_reference backward backward_samples) wanted mb_col mb_row in
+        refusal ≡ 0 → (result ≡ prediction_answer 0 (accepted wanted)) × (out.new ≡ prediction) }
+    ensures backward_alone { prediction_number result ≡ backward_missing → BackwardAlone (frame_wanted motion) × (is_present backward ≡ false) }
 {
     let refusal = destination_refusal(dest, mb_col, mb_row, out.len());
     if refusal != 0 {
@@ -865,27 +865,27 @@ pub fn predict_field_based_macroblock_planes(
     motion: FieldBasedMotion,
     out: &mut [u8],
 ) -> MacroblockPrediction
-    ensures answer { let used = fieldUses motion (isPresent forward) (isPresent backward) in
-        let forward_lengths = lengthsOf (samplesOf forward_y.now forward_cb.now forward_cr.now) in
-        let backward_lengths = lengthsOf (samplesOf backward_y.now backward_cb.now backward_cr.now) in
-        let refusal = predictionRefusal dest (length out.old) forward forward_lengths backward backward_lengths used mb_col mb_row in
-        result ≡ predictionAnswer refusal (accepted used) }
-    ensures directions { let used = fieldUses motion (isPresent forward) (isPresent backward) in
-        predictionNumber result ≡ 0 → predictionDirections result ≡ some (directionsOf used) }
-    ensures buffer { let used = fieldUses motion (isPresent forward) (isPresent backward) in
-        let forward_read = readReference forward (samplesOf forward_y.now forward_cb.now forward_cr.now) in
-        let backward_read = readReference backward (samplesOf backward_y.now backward_cb.now backward_cr.now) in
+    ensures answer { let used = field_uses motion (is_present forward) (is_present backward) in
+        let forward_lengths = lengths_of (samples_of forward_y.now forward_cb.now forward_cr.now) in
+        let backward_lengths = lengths_of (samples_of backward_y.now backward_cb.now backward_cr.now) in
+        let refusal = prediction_refusal dest (length out.old) forward forward_lengths backward backward_lengths used mb_col mb_row in
+        result ≡ prediction_answer refusal (accepted used) }
+    ensures directions { let used = field_uses motion (is_present forward) (is_present backward) in
+        prediction_number result ≡ 0 → prediction_directions result ≡ some (directions_of used) }
+    ensures buffer { let used = field_uses motion (is_present forward) (is_present backward) in
+        let forward_read = read_reference forward (samples_of forward_y.now forward_cb.now forward_cr.now) in
+        let backward_read = read_reference backward (samples_of backward_y.now backward_cb.now backward_cr.now) in
         let prediction = predicted rounded dest.chroma_format forward_read backward_read used mb_col mb_row in
-        out.new ≡ unlessRefused (predictionNumber result) prediction out.old }
+        out.new ≡ unless_refused (prediction_number result) prediction out.old }
 
     // Samples given by the directions that have motion, where nothing of these is refused, are as they would be by these alone.
-    ensures unchanged { let wanted = fieldWanted motion in
-        let forward_samples = samplesOf forward_y.now forward_cb.now forward_cr.now in
-        let backward_samples = samplesOf backward_y.now backward_cb.now backward_cr.now in
-        let refusal = predictionRefusal dest (length out.old) forward (lengthsOf forward_samples) backward (lengthsOf backward_samples) wanted mb_col mb_row in
-        let prediction = predicted rounded dest.chroma_format (readReference forward forward_samples) (readReference backward backward_samples) wanted mb_col mb_row in
-        refusal ≡ 0 → (result ≡ predictionAnswer 0 (accepted wanted)) × (out.new ≡ prediction) }
-    ensures backward_alone { predictionNumber result ≡ backwardMissing → BackwardAlone (fieldWanted motion) × (isPresent backward ≡ false) }
+    ensures unchanged { let wanted = field_wanted motion in
+        let forward_samples = samples_of forward_y.now forward_cb.now forward_cr.now in
+        let backward_samples = samples_of backward_y.now backward_cb.now backward_cr.now in
+        let refusal = prediction_refusal dest (length out.old) forward (lengths_of forward_samples) backward (lengths_of backward_samples) wanted mb_col mb_row in
+        let prediction = predicted rounded dest.chroma_format (read_reference forward forward_samples) (read_reference backward backward_samples) wanted mb_col mb_row in
+        refusal ≡ 0 → (result ≡ prediction_answer 0 (accepted wanted)) × (out.new ≡ prediction) }
+    ensures backward_alone { prediction_number result ≡ backward_missing → BackwardAlone (field_wanted motion) × (is_present backward ≡ false) }
 {
     let refusal = destination_refusal(dest, mb_col, mb_row, out.len());
     if refusal != 0 {

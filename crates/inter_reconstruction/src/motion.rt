@@ -1,6 +1,6 @@
 //! ISO/IEC 13818-2, 7.6.3.5, 7.6.4 and 7.6.5: the vectors of a macroblock, by direction.
 ghost use Rattle.std.specs.Prelude.{◌≡◌};
-ghost use Rattle.inter_reconstruction.specs.Motion.{zeroVector, zeroPair, frameDirection, fieldDirection, wanted, remaining, uses, frameUses, fieldUses, chromaVector, chromaField, chromaMotion};
+ghost use Rattle.inter_reconstruction.specs.Motion.{zero_vector, zero_pair, frame_direction, field_direction, wanted, remaining, uses, frame_uses, field_uses, chroma_vector, chroma_field, chroma_motion};
 ghost use Rattle.inter_reconstruction.specs.declared.motion.DirectionMotion.TheVariants.{Frame, Field};
 ghost use Rattle.inter_reconstruction.specs.declared.motion.OptionDirectionMotion.TheVariants.{None, Some};
 ghost use Rattle.inter_reconstruction.specs.declared.motion.Uses.TheVariants.{Both};
@@ -89,7 +89,7 @@ pub enum UsedDirections {
 }
 
 fn zero_vector() -> MotionVectorPel
-    ensures { result ≡ zeroVector }
+    ensures { result ≡ zero_vector }
 {
     MotionVectorPel {
         horizontal: 0,
@@ -98,7 +98,7 @@ fn zero_vector() -> MotionVectorPel
 }
 
 fn zero_pair() -> FieldVectorPair
-    ensures { result ≡ zeroPair }
+    ensures { result ≡ zero_pair }
 {
     FieldVectorPair {
         top: FieldVector {
@@ -117,7 +117,7 @@ fn zero_pair() -> FieldVectorPair
 
 /// By the backward direction, where the forward one has no motion.
 fn frame_without_forward(backward: FrameDirection) -> Uses
-    ensures { result ≡ wanted (Frame zeroVector) None (frameDirection backward) }
+    ensures { result ≡ wanted (Frame zero_vector) None (frame_direction backward) }
 {
     match backward {
         FrameDirection::Absent => Uses::Forward(DirectionMotion::Frame(zero_vector())),
@@ -153,7 +153,7 @@ fn frame_with_forward(
     forward_present: bool,
     backward_present: bool,
 ) -> Uses
-    ensures { result ≡ uses (Frame zeroVector) (Some (Frame d)) (frameDirection backward) forward_present backward_present }
+    ensures { result ≡ uses (Frame zero_vector) (Some (Frame d)) (frame_direction backward) forward_present backward_present }
 {
     match backward {
         FrameDirection::Absent => Uses::Forward(DirectionMotion::Frame(d)),
@@ -165,7 +165,7 @@ impl FrameMotion {
     /// The directions that are used, with their motion. Where neither has motion, the forward one is, with zero vectors. Where both have,
     /// and one reference alone is there, that one is.
     pub fn uses(self, forward_present: bool, backward_present: bool) -> Uses
-        ensures { result ≡ frameUses self forward_present backward_present }
+        ensures { result ≡ frame_uses self forward_present backward_present }
     {
         let forward = self.forward;
         let backward = self.backward;
@@ -183,7 +183,7 @@ impl FrameMotion {
 
 /// The same by field vectors.
 fn field_without_forward(backward: FieldDirection) -> Uses
-    ensures { result ≡ wanted (Field zeroPair) None (fieldDirection backward) }
+    ensures { result ≡ wanted (Field zero_pair) None (field_direction backward) }
 {
     match backward {
         FieldDirection::Absent => Uses::Forward(DirectionMotion::Field(zero_pair())),
@@ -219,7 +219,7 @@ fn field_with_forward(
     forward_present: bool,
     backward_present: bool,
 ) -> Uses
-    ensures { result ≡ uses (Field zeroPair) (Some (Field d)) (fieldDirection backward) forward_present backward_present }
+    ensures { result ≡ uses (Field zero_pair) (Some (Field d)) (field_direction backward) forward_present backward_present }
 {
     match backward {
         FieldDirection::Absent => Uses::Forward(DirectionMotion::Field(d)),
@@ -230,7 +230,7 @@ fn field_with_forward(
 impl FieldBasedMotion {
     /// The same by field vectors.
     pub fn uses(self, forward_present: bool, backward_present: bool) -> Uses
-        ensures { result ≡ fieldUses self forward_present backward_present }
+        ensures { result ≡ field_uses self forward_present backward_present }
     {
         let forward = self.forward;
         let backward = self.backward;
@@ -247,7 +247,7 @@ impl FieldBasedMotion {
 }
 
 fn chroma_vector(chroma_format: ChromaFormat, v: MotionVectorPel) -> MotionVectorPel
-    ensures { result ≡ chromaVector chroma_format v }
+    ensures { result ≡ chroma_vector chroma_format v }
 {
     let scaled = scale_chroma(v.horizontal, v.vertical, chroma_format);
     MotionVectorPel {
@@ -257,7 +257,7 @@ fn chroma_vector(chroma_format: ChromaFormat, v: MotionVectorPel) -> MotionVecto
 }
 
 fn chroma_field(chroma_format: ChromaFormat, u: FieldVector) -> FieldVector
-    ensures { result ≡ chromaField chroma_format u }
+    ensures { result ≡ chroma_field chroma_format u }
 {
     let v = u.vector;
     let reference_field = u.reference_field;
@@ -270,7 +270,7 @@ fn chroma_field(chroma_format: ChromaFormat, u: FieldVector) -> FieldVector
 impl DirectionMotion {
     /// The motion of the chrominance: its vectors are scaled, its fields are the same.
     pub fn chroma(self, chroma_format: ChromaFormat) -> Self
-        ensures { result ≡ chromaMotion chroma_format self }
+        ensures { result ≡ chroma_motion chroma_format self }
     {
         match self {
             DirectionMotion::Frame(v) => DirectionMotion::Frame(chroma_vector(chroma_format, v)),

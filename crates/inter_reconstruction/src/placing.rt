@@ -1,10 +1,10 @@
 //! Placing: a macroblock's bytes go to the planes of a picture, each to the place that prediction forms it for.
 ghost use Rattle.std.specs.Prelude.{◌≡◌, length};
-ghost use Rattle.combine_predictions.specs.Refusals.{unlessRefused};
-ghost use Rattle.inter_reconstruction.specs.Components.{ColourComponent, columnsOf, lines_of};
-ghost use Rattle.inter_reconstruction.specs.Frames.{samplesOf, lengthsOf};
-ghost use Rattle.inter_reconstruction.specs.Placing.{placeAt, stored, placed, wholeSide, wellFormed, cellInside, pictureFits, placingRefusal, placingAnswer, placingNumber};
-ghost use Rattle.inter_reconstruction.specs.inner.Placing.{Room, Placeable, sidesAre};
+ghost use Rattle.combine_predictions.specs.Refusals.{unless_refused};
+ghost use Rattle.inter_reconstruction.specs.Components.{ColourComponent, columns_of, lines_of};
+ghost use Rattle.inter_reconstruction.specs.Frames.{samples_of, lengths_of};
+ghost use Rattle.inter_reconstruction.specs.Placing.{place_at, stored, placed, whole_side, well_formed, cell_inside, picture_fits, placing_refusal, placing_answer, placing_number};
+ghost use Rattle.inter_reconstruction.specs.inner.Placing.{Room, Placeable, sides_are};
 
 use crate::frames::{FrameBuffer, FrameGeometry, chroma_mb_extent};
 use crate::macroblock::planes_fit;
@@ -34,7 +34,7 @@ fn place_block(
     plane: &mut [u8],
 )
     requires { Room x y block_width block_height width (length plane.old) (length block.now) }
-    ensures { plane.new ≡ stored (placeAt width block_width x y) block.now plane.old }
+    ensures { plane.new ≡ stored (place_at width block_width x y) block.now plane.old }
 {
     let mut r: usize = 0;
     while r < block_height {
@@ -57,8 +57,8 @@ fn place_planes(
     cb: &mut [u8],
     cr: &mut [u8],
 )
-    requires { Placeable picture (lengthsOf (samplesOf y.old cb.old cr.old)) (length bytes.now) mb_col mb_row }
-    ensures { samplesOf y.new cb.new cr.new ≡ placed picture mb_col mb_row bytes.now (samplesOf y.old cb.old cr.old) }
+    requires { Placeable picture (lengths_of (samples_of y.old cb.old cr.old)) (length bytes.now) mb_col mb_row }
+    ensures { samples_of y.new cb.new cr.new ≡ placed picture mb_col mb_row bytes.now (samples_of y.old cb.old cr.old) }
 {
     let geometry = picture.geometry;
     let chroma_format = geometry.chroma_format;
@@ -101,7 +101,7 @@ fn place_planes(
 
 /// No side is over 16,384, and each plane has as many samples as its sides say.
 fn picture_fits(picture: FrameBuffer, y: &[u8], cb: &[u8], cr: &[u8]) -> bool
-    ensures { result ≡ pictureFits picture (lengthsOf (samplesOf y.now cb.now cr.now)) }
+    ensures { result ≡ picture_fits picture (lengths_of (samples_of y.now cb.now cr.now)) }
 {
     let g = picture.geometry;
     ((g.width <= LARGEST_SIDE) & (g.height <= LARGEST_SIDE)) & planes_fit(picture, y, cb, cr)
@@ -109,14 +109,14 @@ fn picture_fits(picture: FrameBuffer, y: &[u8], cb: &[u8], cr: &[u8]) -> bool
 
 /// A side of a picture is a multiple of 16, and not 0.
 fn whole_side(side: usize) -> bool
-    ensures { result ≡ wholeSide side }
+    ensures { result ≡ whole_side side }
 {
     (side != 0) & (side % 16 == 0)
 }
 
 /// The sides of a chrominance plane that fits the picture's sides and format.
 fn chroma_sides(g: FrameGeometry) -> ReferencePlane
-    ensures { (result.width ≡ columnsOf g.chroma_format ColourComponent.cb g.width) × (result.height ≡ lines_of g.chroma_format ColourComponent.cb g.height) }
+    ensures { (result.width ≡ columns_of g.chroma_format ColourComponent.cb g.width) × (result.height ≡ lines_of g.chroma_format ColourComponent.cb g.height) }
 {
     let f = g.chroma_format;
     match f {
@@ -136,14 +136,14 @@ fn chroma_sides(g: FrameGeometry) -> ReferencePlane
 }
 
 fn sides_are(plane: ReferencePlane, width: usize, height: usize) -> bool
-    ensures { result ≡ sidesAre plane width height }
+    ensures { result ≡ sides_are plane width height }
 {
     (plane.width == width) & (plane.height == height)
 }
 
 /// The picture's sides are whole, and its planes fit them.
 fn well_formed(picture: FrameBuffer) -> bool
-    ensures { result ≡ wellFormed picture }
+    ensures { result ≡ well_formed picture }
 {
     let g = picture.geometry;
     let chroma = chroma_sides(g);
@@ -157,7 +157,7 @@ fn well_formed(picture: FrameBuffer) -> bool
 }
 
 fn cell_inside(g: FrameGeometry, mb_col: usize, mb_row: usize) -> bool
-    ensures { result ≡ cellInside g mb_col mb_row }
+    ensures { result ≡ cell_inside g mb_col mb_row }
 {
     (mb_col < g.width / 16) & (mb_row < g.height / 16)
 }
@@ -172,7 +172,7 @@ fn placing_refusal(
     cb: &[u8],
     cr: &[u8],
 ) -> u8
-    ensures { result ≡ placingRefusal picture (lengthsOf (samplesOf y.now cb.now cr.now)) bytes mb_col mb_row }
+    ensures { result ≡ placing_refusal picture (lengths_of (samples_of y.now cb.now cr.now)) bytes mb_col mb_row }
 {
     if !picture_fits(picture, y, cb, cr) {
         return OUTSIDE_DOMAIN;
@@ -202,8 +202,8 @@ pub fn place_macroblock(
     cb: &mut [u8],
     cr: &mut [u8],
 ) -> MacroblockPlacement
-    ensures answer { result ≡ placingAnswer (placingRefusal picture (lengthsOf (samplesOf y.old cb.old cr.old)) (length bytes.now) mb_col mb_row) }
-    ensures planes { samplesOf y.new cb.new cr.new ≡ unlessRefused (placingNumber result) (placed picture mb_col mb_row bytes.now (samplesOf y.old cb.old cr.old)) (samplesOf y.old cb.old cr.old) }
+    ensures answer { result ≡ placing_answer (placing_refusal picture (lengths_of (samples_of y.old cb.old cr.old)) (length bytes.now) mb_col mb_row) }
+    ensures planes { samples_of y.new cb.new cr.new ≡ unless_refused (placing_number result) (placed picture mb_col mb_row bytes.now (samples_of y.old cb.old cr.old)) (samples_of y.old cb.old cr.old) }
 {
     let number = placing_refusal(picture, mb_col, mb_row, bytes.len(), y, cb, cr);
     if number != 0 {

@@ -6,7 +6,7 @@ use Prim.Native.Nat.{ℕ, zero, suc, ◌<◌}
 use native.Mathlib.Omega.{arith}
 use lib.ListN.{length, get_or, set, take, drop, length-append, length-set}
 use Rattle.laws.specs.Tabulate.{tabulate}
-use Rattle.laws.proofs.Tabulated.{length-tab}
+use Rattle.laws.proofs.Tabulated.{length_tab}
 
 -- one length, and R at every index; past the end both read 0, so that R 0 0 is asked too
 pub record Related (R : ℕ → ℕ → Type 0) (xs ys : List ℕ) : Type 0 where
@@ -14,16 +14,16 @@ pub record Related (R : ℕ → ℕ → Type 0) (xs ys : List ℕ) : Type 0 wher
   pub at : (i : ℕ) → R (get_or xs i 0) (get_or ys i 0)
 
 module _ (R : ℕ → ℕ → Type 0) (z : R 0 0) where
-  tab-at : (n : ℕ) (f g : ℕ → ℕ)
+  tab_at : (n : ℕ) (f g : ℕ → ℕ)
       → ((k : ℕ) → k < n → R (f k) (g k)) → (i : ℕ) → R (get_or (tabulate n f) i 0) (get_or (tabulate n g) i 0)
   unfolding tabulate
-  tab-at zero f g h i = z
-  tab-at (suc n) f g h zero = h zero (omega arith)
-  tab-at (suc n) f g h (suc i) = tab-at n (λ k. f (suc k)) (λ k. g (suc k)) (λ k l. h (suc k) (omega arith)) i
+  tab_at zero f g h i = z
+  tab_at (suc n) f g h zero = h zero (omega arith)
+  tab_at (suc n) f g h (suc i) = tab_at n (λ k. f (suc k)) (λ k. g (suc k)) (λ k l. h (suc k) (omega arith)) i
 
   -- related rules give related lists: one rule in two arithmetics
-  pub related-tab : (n : ℕ) (f g : ℕ → ℕ) → ((k : ℕ) → k < n → R (f k) (g k)) → Related R (tabulate n f) (tabulate n g)
-  related-tab n f g h = record { same = length-tab n f ∙ sym (length-tab n g); at = tab-at n f g h }
+  pub related_tab : (n : ℕ) (f g : ℕ → ℕ) → ((k : ℕ) → k < n → R (f k) (g k)) → Related R (tabulate n f) (tabulate n g)
+  related_tab n f g h = record { same = length_tab n f ∙ sym (length_tab n g); at = tab_at n f g h }
 
 module _ (R : ℕ → ℕ → Type 0) where
   append_at : (xs ys us vs : List ℕ)
@@ -39,17 +39,17 @@ module _ (R : ℕ → ℕ → Type 0) where
   append_at (x ∷ xs) (y ∷ ys) us vs e h k (suc i) = append_at xs ys us vs (omega arith) (λ j. h (suc j)) k i
 
   -- one list after another
-  pub related-append : {xs ys us vs : List ℕ} → Related R xs ys → Related R us vs → Related R (xs ++ us) (ys ++ vs)
-  related-append {xs} {ys} {us} {vs} a b =
+  pub related_append : {xs ys us vs : List ℕ} → Related R xs ys → Related R us vs → Related R (xs ++ us) (ys ++ vs)
+  related_append {xs} {ys} {us} {vs} a b =
       record {
         same = omega (arith, length-append xs us, length-append ys vs, a.same, b.same);
         at = append_at xs ys us vs a.same a.at b.at;
       }
 
 -- a weaker relation
-pub related-map : (R S : ℕ → ℕ → Type 0) {xs ys : List ℕ}
+pub related_map : (R S : ℕ → ℕ → Type 0) {xs ys : List ℕ}
     → ((a b : ℕ) → R a b → S a b) → Related R xs ys → Related S xs ys
-related-map R S {xs} {ys} f a = record { same = a.same; at = λ i. f (get_or xs i 0) (get_or ys i 0) (a.at i) }
+related_map R S {xs} {ys} f a = record { same = a.same; at = λ i. f (get_or xs i 0) (get_or ys i 0) (a.at i) }
 
 -- ---- what keeps two lists related: a store at one place, and a part
 
@@ -65,23 +65,23 @@ module _ (R : ℕ → ℕ → Type 0) where
   set_at (x ∷ xs) (y ∷ ys) (suc i) a b e h r (suc k) = set_at xs ys i a b (omega arith) (λ j. h (suc j)) r k
 
   -- one store
-  pub related-set : {xs ys : List ℕ} (i : ℕ) {a b : ℕ} → Related R xs ys → R a b → Related R (set xs i a) (set ys i b)
-  related-set {xs} {ys} i {a} {b} p r =
+  pub related_set : {xs ys : List ℕ} (i : ℕ) {a b : ℕ} → Related R xs ys → R a b → Related R (set xs i a) (set ys i b)
+  related_set {xs} {ys} i {a} {b} p r =
       record { same = length-set xs i a ∙ p.same ∙ sym (length-set ys i b); at = set_at xs ys i a b p.same p.at r }
 
   -- the heads, and what is behind them
-  pub related-head : {x y : ℕ} {xs ys : List ℕ} → Related R (x ∷ xs) (y ∷ ys) → R x y
-  related-head p = p.at zero
+  pub related_head : {x y : ℕ} {xs ys : List ℕ} → Related R (x ∷ xs) (y ∷ ys) → R x y
+  related_head p = p.at zero
 
-  pub related-tail : {x y : ℕ} {xs ys : List ℕ} → Related R (x ∷ xs) (y ∷ ys) → Related R xs ys
-  related-tail p = record { same = omega (arith, p.same); at = λ i. p.at (suc i) }
+  pub related_tail : {x y : ℕ} {xs ys : List ℕ} → Related R (x ∷ xs) (y ∷ ys) → Related R xs ys
+  related_tail p = record { same = omega (arith, p.same); at = λ i. p.at (suc i) }
 
-  pub related-drop : (n : ℕ) (xs ys : List ℕ) → Related R xs ys → Related R (drop n xs) (drop n ys)
-  related-drop zero xs ys p = p
-  related-drop (suc n) [] [] p = p
-  related-drop (suc n) [] (y ∷ ys) p = absurd (omega (arith, p.same))
-  related-drop (suc n) (x ∷ xs) [] p = absurd (omega (arith, p.same))
-  related-drop (suc n) (x ∷ xs) (y ∷ ys) p = related-drop n xs ys (related-tail p)
+  pub related_drop : (n : ℕ) (xs ys : List ℕ) → Related R xs ys → Related R (drop n xs) (drop n ys)
+  related_drop zero xs ys p = p
+  related_drop (suc n) [] [] p = p
+  related_drop (suc n) [] (y ∷ ys) p = absurd (omega (arith, p.same))
+  related_drop (suc n) (x ∷ xs) [] p = absurd (omega (arith, p.same))
+  related_drop (suc n) (x ∷ xs) (y ∷ ys) p = related_drop n xs ys (related_tail p)
 
 module _ (R : ℕ → ℕ → Type 0) (z : R 0 0) where
   cons : {x y : ℕ} {xs ys : List ℕ} → R x y → Related R xs ys → Related R (x ∷ xs) (y ∷ ys)
@@ -91,9 +91,9 @@ module _ (R : ℕ → ℕ → Type 0) (z : R 0 0) where
       go zero = r
       go (suc i) = p.at i
 
-  pub related-take : (n : ℕ) (xs ys : List ℕ) → Related R xs ys → Related R (take n xs) (take n ys)
-  related-take zero xs ys p = record { same = refl; at = λ i. z }
-  related-take (suc n) [] [] p = p
-  related-take (suc n) [] (y ∷ ys) p = absurd (omega (arith, p.same))
-  related-take (suc n) (x ∷ xs) [] p = absurd (omega (arith, p.same))
-  related-take (suc n) (x ∷ xs) (y ∷ ys) p = cons (related-head R p) (related-take n xs ys (related-tail R p))
+  pub related_take : (n : ℕ) (xs ys : List ℕ) → Related R xs ys → Related R (take n xs) (take n ys)
+  related_take zero xs ys p = record { same = refl; at = λ i. z }
+  related_take (suc n) [] [] p = p
+  related_take (suc n) [] (y ∷ ys) p = absurd (omega (arith, p.same))
+  related_take (suc n) (x ∷ xs) [] p = absurd (omega (arith, p.same))
+  related_take (suc n) (x ∷ xs) (y ∷ ys) p = cons (related_head R p) (related_take n xs ys (related_tail R p))

@@ -9,7 +9,7 @@ use native.Mathlib.Omega.{arith}
 use lib.ListN.{length, take, drop}
 use borrow.Rule.Slice.PartMut.{put_mid}
 use Rattle.laws.specs.Tabulate.{tabulate}
-use Rattle.laws.proofs.Filled.{Filled, filled_none, filled-part, filled-all}
+use Rattle.laws.proofs.Filled.{Filled, filled_none, filled_part, filled_all}
 use Rattle.laws.proofs.Parts.{part_length}
 
 -- row r of h rows of w elements
@@ -28,11 +28,11 @@ rows_none f d w h e = record { count = e; few = omega arith; filled = rw (zero-m
 
 module _ {f : ℕ → ℕ} {d : List ℕ} {w h r : ℕ} {o : List ℕ} (p : RowsFilled f d w h r o) where
   -- the next row lies in the buffer, as a part of w elements
-  pub rows-room : r < h → r * w + w ≤ length o
-  rows-room l = omega (arith, row_in r h w l)
+  pub rows_room : r < h → r * w + w ≤ length o
+  rows_room l = omega (arith, row_in r h w l)
 
-  pub rows-part : r < h → length (take (r * w + w - r * w) (drop (r * w) o)) ≡ w
-  rows-part l = part_length o (r * w) (r * w + w) (rows-room l) ∙ omega arith
+  pub rows_part : r < h → length (take (r * w + w - r * w) (drop (r * w) o)) ≡ w
+  rows_part l = part_length o (r * w) (r * w + w) (rows_room l) ∙ omega arith
 
   -- after a turn in which a call wrote it
   pub rows_step : {g : ℕ → ℕ} {ys : List ℕ} → r < h
@@ -44,7 +44,7 @@ module _ {f : ℕ → ℕ} {d : List ℕ} {w h r : ℕ} {o : List ℕ} (p : Rows
       record {
         count = p.count;
         few = omega arith;
-        filled = rw next (filled-part w p.filled (rows-room l) (rw (rows-part l) at e) q);
+        filled = rw next (filled_part w p.filled (rows_room l) (rw (rows_part l) at e) q);
       }
 
   -- where the loop has ended
@@ -52,4 +52,4 @@ module _ {f : ℕ → ℕ} {d : List ℕ} {w h r : ℕ} {o : List ℕ} (p : Rows
   rows_all l =
       let e : r ≡ h = omega arith in
       let all : r * w ≡ w * h = rw e (mul_comm h w) in
-      filled-all p.filled (omega arith) p.count
+      filled_all p.filled (omega arith) p.count

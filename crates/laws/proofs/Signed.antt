@@ -26,21 +26,21 @@ zn (negsuc n) = suc n
 -- ---- equality, and which part is 0
 
 -- an equation of whole numbers, shown as one of their parts
-pub eq-z : (x y : ℤ) → zp x + zn y ≡ zp y + zn x → x ≡ y
-eq-z (pos a) (pos b) h = ap pos (omega arith)
-eq-z (pos a) (negsuc b) h = absurd (omega arith)
-eq-z (negsuc a) (pos b) h = absurd (omega arith)
-eq-z (negsuc a) (negsuc b) h = ap negsuc (omega arith)
+pub eq_z : (x y : ℤ) → zp x + zn y ≡ zp y + zn x → x ≡ y
+eq_z (pos a) (pos b) h = ap pos (omega arith)
+eq_z (pos a) (negsuc b) h = absurd (omega arith)
+eq_z (negsuc a) (pos b) h = absurd (omega arith)
+eq_z (negsuc a) (negsuc b) h = ap negsuc (omega arith)
 
 -- a number that is not negative has no negative part
-pub zn-zero : (z : ℤ) → zn z ≤ zp z → zn z ≡ 0
-zn-zero (pos n) h = refl
-zn-zero (negsuc n) h = absurd (omega arith)
+pub zn_zero : (z : ℤ) → zn z ≤ zp z → zn z ≡ 0
+zn_zero (pos n) h = refl
+zn_zero (negsuc n) h = absurd (omega arith)
 
 -- a number that is not positive has no positive part
-pub zp-zero : (z : ℤ) → zp z ≤ zn z → zp z ≡ 0
-zp-zero (pos n) h = omega arith
-zp-zero (negsuc n) h = refl
+pub zp_zero : (z : ℤ) → zp z ≤ zn z → zp z ≡ 0
+zp_zero (pos n) h = omega arith
+zp_zero (negsuc n) h = refl
 
 -- ---- operations
 
@@ -51,66 +51,66 @@ difference a b true e = omega (arith, ltb-true a b e)
 difference a b false e = omega (arith, ltb-false a b e)
 
 -- a - b of natural numbers as a whole number
-pub dif-z : (a b : ℕ) → zp (sub_ℕ a b) + b ≡ a + zn (sub_ℕ a b)
-dif-z a b = difference a b (ltb a b) refl
+pub dif_z : (a b : ℕ) → zp (sub_ℕ a b) + b ≡ a + zn (sub_ℕ a b)
+dif_z a b = difference a b (ltb a b) refl
 
 -- a sum
-pub add-z : (x y : ℤ) → zp (x +ℤ y) + zn x + zn y ≡ zp x + zp y + zn (x +ℤ y)
-add-z (pos a) (pos b) = omega arith
-add-z (pos a) (negsuc b) = omega (arith, dif-z a (suc b))
-add-z (negsuc a) (pos b) = omega (arith, dif-z b (suc a))
-add-z (negsuc a) (negsuc b) = omega arith
+pub add_z : (x y : ℤ) → zp (x +ℤ y) + zn x + zn y ≡ zp x + zp y + zn (x +ℤ y)
+add_z (pos a) (pos b) = omega arith
+add_z (pos a) (negsuc b) = omega (arith, dif_z a (suc b))
+add_z (negsuc a) (pos b) = omega (arith, dif_z b (suc a))
+add_z (negsuc a) (negsuc b) = omega arith
 
 -- a negation exchanges the parts
-pub neg-p : (x : ℤ) → zp (neg_ℤ x) ≡ zn x
-neg-p (pos zero) = refl
-neg-p (pos (suc n)) = refl
-neg-p (negsuc n) = refl
+pub neg_p : (x : ℤ) → zp (neg_ℤ x) ≡ zn x
+neg_p (pos zero) = refl
+neg_p (pos (suc n)) = refl
+neg_p (negsuc n) = refl
 
 -- and so for the negative part
-pub neg-n : (x : ℤ) → zn (neg_ℤ x) ≡ zp x
-neg-n (pos zero) = refl
-neg-n (pos (suc n)) = refl
-neg-n (negsuc n) = refl
+pub neg_n : (x : ℤ) → zn (neg_ℤ x) ≡ zp x
+neg_n (pos zero) = refl
+neg_n (pos (suc n)) = refl
+neg_n (negsuc n) = refl
 
 -- a difference
-pub sub-z : (x y : ℤ) → zp (x -ℤ y) + zn x + zp y ≡ zp x + zn y + zn (x -ℤ y)
-sub-z x y = omega (arith, add-z x (neg_ℤ y), neg-p y, neg-n y)
+pub sub_z : (x y : ℤ) → zp (x -ℤ y) + zn x + zp y ≡ zp x + zn y + zn (x -ℤ y)
+sub_z x y = omega (arith, add_z x (neg_ℤ y), neg_p y, neg_n y)
 
 -- a product with a natural number, part by part
-pub mul-p : (z : ℤ) (k : ℕ) → zp (z *ℤ pos k) ≡ zp z * k
-mul-p (pos n) k = refl
-mul-p (negsuc n) k = neg-p (pos (suc n * k)) ∙ sym (zero-mul k)
+pub mul_p : (z : ℤ) (k : ℕ) → zp (z *ℤ pos k) ≡ zp z * k
+mul_p (pos n) k = refl
+mul_p (negsuc n) k = neg_p (pos (suc n * k)) ∙ sym (zero-mul k)
 
 -- and so for the negative part
-pub mul-n : (z : ℤ) (k : ℕ) → zn (z *ℤ pos k) ≡ zn z * k
-mul-n (pos n) k = sym (zero-mul k)
-mul-n (negsuc n) k = neg-n (pos (suc n * k))
+pub mul_n : (z : ℤ) (k : ℕ) → zn (z *ℤ pos k) ≡ zn z * k
+mul_n (pos n) k = sym (zero-mul k)
+mul_n (negsuc n) k = neg_n (pos (suc n * k))
 
 -- the shift right by one, which is the floor of half: twice it is at most z, and at least z - 1
-pub half-lo : (z : ℤ) → 2 * zp (shr_z z 2) + zn z ≤ zp z + 2 * zn (shr_z z 2)
-half-lo (pos n) = omega arith
-half-lo (negsuc n) = omega arith
+pub half_lo : (z : ℤ) → 2 * zp (shr_z z 2) + zn z ≤ zp z + 2 * zn (shr_z z 2)
+half_lo (pos n) = omega arith
+half_lo (negsuc n) = omega arith
 
 -- the other half of that
-pub half-hi : (z : ℤ) → zp z + 2 * zn (shr_z z 2) ≤ 2 * zp (shr_z z 2) + zn z + 1
-half-hi (pos n) = omega arith
-half-hi (negsuc n) = omega arith
+pub half_hi : (z : ℤ) → zp z + 2 * zn (shr_z z 2) ≤ 2 * zp (shr_z z 2) + zn z + 1
+half_hi (pos n) = omega arith
+half_hi (negsuc n) = omega arith
 
 -- the division by 2, which truncates: each part is halved
-pub quot-p : (z : ℤ) → zp (quot_z z (pos 2)) ≡ zp z / 2
-quot-p (pos n) = refl
-quot-p (negsuc n) = neg-p (pos (suc n / 2))
+pub quot_p : (z : ℤ) → zp (quot_z z (pos 2)) ≡ zp z / 2
+quot_p (pos n) = refl
+quot_p (negsuc n) = neg_p (pos (suc n / 2))
 
 -- and so for the negative part
-pub quot-n : (z : ℤ) → zn (quot_z z (pos 2)) ≡ zn z / 2
-quot-n (pos n) = refl
-quot-n (negsuc n) = neg-n (pos (suc n / 2))
+pub quot_n : (z : ℤ) → zn (quot_z z (pos 2)) ≡ zn z / 2
+quot_n (pos n) = refl
+quot_n (negsuc n) = neg_n (pos (suc n / 2))
 
 -- the magnitude
-pub abs-z : (z : ℤ) → nat_abs z ≡ zp z + zn z
-abs-z (pos n) = omega arith
-abs-z (negsuc n) = omega arith
+pub abs_z : (z : ℤ) → nat_abs z ≡ zp z + zn z
+abs_z (pos n) = omega arith
+abs_z (negsuc n) = omega arith
 
 -- ---- the tests that code makes: what one that was made says, and how one will go
 
@@ -136,11 +136,11 @@ le_yes (negsuc a) (pos b) e = omega arith
 le_yes (negsuc a) (negsuc b) e = omega (arith, leb-true b a e)
 
 -- x ≤ y failed
-pub le-no : (x y : ℤ) → le_z x y ≡ false → zp y + zn x < zp x + zn y
-le-no (pos a) (pos b) e = omega (arith, leb-false a b e)
-le-no (pos a) (negsuc b) e = omega arith
-le-no (negsuc a) (pos b) e = let z : ◌≡◌ {A = ℕ} 0 1 = cc in omega arith
-le-no (negsuc a) (negsuc b) e = omega (arith, leb-false b a e)
+pub le_no : (x y : ℤ) → le_z x y ≡ false → zp y + zn x < zp x + zn y
+le_no (pos a) (pos b) e = omega (arith, leb-false a b e)
+le_no (pos a) (negsuc b) e = omega arith
+le_no (negsuc a) (pos b) e = let z : ◌≡◌ {A = ℕ} 0 1 = cc in omega arith
+le_no (negsuc a) (negsuc b) e = omega (arith, leb-false b a e)
 
 -- x < y will hold
 pub yes_lt : (x y : ℤ) → zp x + zn y < zp y + zn x → lt_z x y ≡ true
@@ -171,23 +171,23 @@ no_le (negsuc a) (pos b) h = absurd (omega arith)
 no_le (negsuc a) (negsuc b) h = lt-leb b a (omega arith)
 
 -- what a cast to an unsigned type asks of a number that is not negative
-pub nonNeg-z : (z : ℤ) → zn z ≤ zp z → T (non_neg z)
-nonNeg-z (pos n) h = tt
-nonNeg-z (negsuc n) h = absurd (omega arith)
+pub non_neg_z : (z : ℤ) → zn z ≤ zp z → T (non_neg z)
+non_neg_z (pos n) h = tt
+non_neg_z (negsuc n) h = absurd (omega arith)
 
 -- ---- what a width holds
 
 -- a number that fits is below the upper end
-pub sfits-hi : (w : Width) (z : ℤ) → SFits w z → zp z < 2 ^ hbits w + zn z
-sfits-hi w (pos n) h = omega (arith, h.sfits)
-sfits-hi w (negsuc n) h = omega (arith, h.sfits)
+pub sfits_hi : (w : Width) (z : ℤ) → SFits w z → zp z < 2 ^ hbits w + zn z
+sfits_hi w (pos n) h = omega (arith, h.sfits)
+sfits_hi w (negsuc n) h = omega (arith, h.sfits)
 
 -- and not below the lower end
-pub sfits-lo : (w : Width) (z : ℤ) → SFits w z → zn z ≤ 2 ^ hbits w + zp z
-sfits-lo w (pos n) h = omega (arith, h.sfits)
-sfits-lo w (negsuc n) h = omega (arith, h.sfits)
+pub sfits_lo : (w : Width) (z : ℤ) → SFits w z → zn z ≤ 2 ^ hbits w + zp z
+sfits_lo w (pos n) h = omega (arith, h.sfits)
+sfits_lo w (negsuc n) h = omega (arith, h.sfits)
 
 -- a number between the ends fits
-pub sfits-z : (w : Width) (z : ℤ) → zp z < 2 ^ hbits w + zn z → zn z ≤ 2 ^ hbits w + zp z → SFits w z
-sfits-z w (pos n) h k = record { sfits = omega arith }
-sfits-z w (negsuc n) h k = record { sfits = omega arith }
+pub sfits_z : (w : Width) (z : ℤ) → zp z < 2 ^ hbits w + zn z → zn z ≤ 2 ^ hbits w + zp z → SFits w z
+sfits_z w (pos n) h k = record { sfits = omega arith }
+sfits_z w (negsuc n) h k = record { sfits = omega arith }

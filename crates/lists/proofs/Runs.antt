@@ -11,13 +11,13 @@ use Rattle.lists.specs.Text.{leading}
 
 -- a run, by the element at its first place
 module _ (p : ℕ → Bool) (s : List ℕ) (i : ℕ) where
-  pub leading-more : i < length s → p (get_or s i 0) ≡ true → leading p (drop i s) ≡ suc (leading p (drop (i + 1) s))
+  pub leading_more : i < length s → p (get_or s i 0) ≡ true → leading p (drop i s) ≡ suc (leading p (drop (i + 1) s))
   unfolding leading
-  leading-more h e = rw (add-one i, drop-cons s i 0 h, e)
+  leading_more h e = rw (add-one i, drop-cons s i 0 h, e)
 
-  pub leading-stop : i < length s → p (get_or s i 0) ≡ false → leading p (drop i s) ≡ 0
+  pub leading_stop : i < length s → p (get_or s i 0) ≡ false → leading p (drop i s) ≡ 0
   unfolding leading
-  leading-stop h e = rw (drop-cons s i 0 h, e)
+  leading_stop h e = rw (drop-cons s i 0 h, e)
 
   pub leading_end : length s ≤ i → leading p (drop i s) ≡ 0
   unfolding leading

@@ -5,9 +5,9 @@
 
 ghost use Rattle.std.specs.Prelude.{◌≡◌, ◌+◌, ◌*◌, ◌^◌, ◌/◌, ◌≤◌, ◌<◌, min, pos, neg_ℤ, length, take, drop};
 ghost use Rattle.laws.specs.Tabulate.{tabulate};
-ghost use Rattle.lists.specs.Text.{inClass, runEnd, place, wordStart, wordEnd, word_at, lineEnds, next_at};
-ghost use Rattle.lists.specs.Numbers.{digitOf, decimal, isNatural, naturalOf, is_number, number_of, NumberAt, nat_of, i32Of};
-ghost use Rattle.lists.specs.ByteStrings.{hexOf, bytes_of, isBytes, stored, ramp, BytesAt};
+ghost use Rattle.lists.specs.Text.{in_class, run_end, place, word_start, word_end, word_at, line_ends, next_at};
+ghost use Rattle.lists.specs.Numbers.{digit_of, decimal, is_natural, natural_of, is_number, number_of, NumberAt, nat_of, i32_of};
+ghost use Rattle.lists.specs.ByteStrings.{hex_of, bytes_of, is_bytes, stored, ramp, BytesAt};
 
 /// Classes of bytes.
 #[derive(Clone, Copy)]
@@ -67,7 +67,7 @@ struct Signed {
 }
 
 fn belongs(class: Class, b: u8) -> bool
-    ensures { result ≡ inClass class b }
+    ensures { result ≡ in_class class b }
 {
     match class {
         Class::Blank => b == b' ',
@@ -92,7 +92,7 @@ fn limited(s: &[u8], at: usize) -> usize
 /// The place after the run of a class that starts at `at`.
 fn run(class: Class, s: &[u8], at: usize) -> usize
     requires { at ≤ length s.now }
-    ensures { (result ≡ runEnd class s.now at) × (at ≤ result) × (result ≤ length s.now) }
+    ensures { (result ≡ run_end class s.now at) × (at ≤ result) × (result ≤ length s.now) }
 {
     let mut i = at;
     while i < s.len() {
@@ -106,13 +106,13 @@ fn run(class: Class, s: &[u8], at: usize) -> usize
 
 /// The same from any place.
 fn run_from(class: Class, s: &[u8], at: usize) -> usize
-    ensures { (result ≡ runEnd class s.now (place s.now at)) × (result ≤ length s.now) }
+    ensures { (result ≡ run_end class s.now (place s.now at)) × (result ≤ length s.now) }
 {
     run(class, s, limited(s, at))
 }
 
 fn word(s: &[u8], at: usize) -> Span
-    ensures { (result.from ≡ wordStart s.now at) × (result.end ≡ wordEnd s.now at) × (result.from ≤ result.end) × (result.end ≤ length s.now) }
+    ensures { (result.from ≡ word_start s.now at) × (result.end ≡ word_end s.now at) × (result.from ≤ result.end) × (result.end ≤ length s.now) }
 {
     let from = run_from(Class::Blank, s, at);
     let end = run(Class::Word, s, from);
@@ -138,7 +138,7 @@ pub fn find_next(s: &[u8], at: usize) -> Next
 
 /// Whether a line ends at `at`: every case is to end its line.
 pub fn line_ends(s: &[u8], at: usize) -> bool
-    ensures { result ≡ lineEnds s.now at }
+    ensures { result ≡ line_ends s.now at }
 {
     if at < s.len() {
         return s[at] == b'\n';
@@ -147,7 +147,7 @@ pub fn line_ends(s: &[u8], at: usize) -> bool
 }
 
 fn digit(b: u8) -> u64
-    ensures { (result ≡ digitOf b) × (result ≤ 9) }
+    ensures { (result ≡ digit_of b) × (result ≤ 9) }
 {
     if belongs(Class::Digit, b) {
         return (b - b'0') as u64;
@@ -170,7 +170,7 @@ fn digits(w: &[u8]) -> u64
 }
 
 fn parse_natural(w: &[u8]) -> Natural
-    ensures { (result.value ≡ naturalOf w.now) × (result.good ≡ isNatural w.now) × (result.value < 10 ^ 18) }
+    ensures { (result.value ≡ natural_of w.now) × (result.good ≡ is_natural w.now) × (result.value < 10 ^ 18) }
 {
     if w.len() == 0 {
         return Natural {
@@ -264,7 +264,7 @@ pub fn byte_of(v: i64) -> u8
 
 /// A number as an i32, or the nearest one where it is none.
 pub fn i32_of(v: i64) -> i32
-    ensures { result ≡ i32Of v }
+    ensures { result ≡ i32_of v }
 {
     if v < -2147483648 {
         return -2147483648;
@@ -276,7 +276,7 @@ pub fn i32_of(v: i64) -> i32
 }
 
 fn hex_digit(b: u8) -> u8
-    ensures { (result ≡ hexOf b) × (result ≤ 15) }
+    ensures { (result ≡ hex_of b) × (result ≤ 15) }
 {
     if belongs(Class::Digit, b) {
         return b - b'0';
@@ -288,14 +288,14 @@ fn hex_digit(b: u8) -> u8
 }
 
 fn hex_byte(high: u8, low: u8) -> u8
-    ensures { result ≡ hexOf high * 16 + hexOf low }
+    ensures { result ≡ hex_of high * 16 + hex_of low }
 {
     hex_digit(high) * 16 + hex_digit(low)
 }
 
 /// Whether a word is a byte string that `room` bytes can hold.
 fn is_bytes(w: &[u8], room: usize) -> bool
-    ensures { result ≡ isBytes w.now room }
+    ensures { result ≡ is_bytes w.now room }
 {
     if w.len() == 0 {
         return false;

@@ -6,10 +6,10 @@ use mathlib.Core.Option.{Option, none, some}
 use Prim.Native.Nat.{ℕ, zero, suc}
 use native.Mathlib.Omega.{arith}
 use lib.IntN.{ℤ}
-use Rattle.combine_predictions.specs.Refusals.{unlessRefused}
-use Rattle.forming_predictions.specs.SampleAnswers.{valueUnless}
-use Rattle.pmv.specs.Update.{updateRefusal, updateOutcome, updated}
-use Rattle.pmv.specs.Answers.{deltaAnswer, deltaNumber, deltaValue, reconstructedAnswer, reconstructedNumber, reconstructedValue, vectorAnswer, vectorNumber, vectorValue, updateAnswer, updateNumber, updateValue}
+use Rattle.combine_predictions.specs.Refusals.{unless_refused}
+use Rattle.forming_predictions.specs.SampleAnswers.{value_unless}
+use Rattle.pmv.specs.Update.{update_refusal, update_outcome, updated}
+use Rattle.pmv.specs.Answers.{delta_answer, delta_number, delta_value, reconstructed_answer, reconstructed_number, reconstructed_value, vector_answer, vector_number, vector_value, update_answer, update_number, update_value}
 use Rattle.pmv.specs.declared.component.ComputedDelta.{ComputedDelta}
 use Rattle.pmv.specs.declared.component.ReconstructedComponent.{ReconstructedComponent}
 use Rattle.pmv.specs.declared.component.Reconstructed.{Reconstructed}
@@ -26,22 +26,22 @@ abbrev is_some : {X : Type 0} → Option X → Bool
 is_some none = false
 is_some (some v) = true
 
-abbrev valueOr : {X : Type 0} → X → Option X → X
-valueOr z none = z
-valueOr z (some v) = v
+abbrev value_or : {X : Type 0} → X → Option X → X
+value_or z none = z
+value_or z (some v) = v
 
 module _ {A X : Type 0} (answer : ℕ → X → A) (number : A → ℕ) (value : A → Option X)
-    (parts : (n : ℕ) (v : X) → (number (answer n v) ≡ n) × (value (answer n v) ≡ valueUnless n v)) where
+    (parts : (n : ℕ) (v : X) → (number (answer n v) ≡ n) × (value (answer n v) ≡ value_unless n v)) where
   -- the named promises, from the answer itself
-  pub promised : (r : A) (n : ℕ) (v : X) → r ≡ answer n v → (number r ≡ n) × (value r ≡ valueUnless (number r) v)
+  pub promised : (r : A) (n : ℕ) (v : X) → r ≡ answer n v → (number r ≡ n) × (value r ≡ value_unless (number r) v)
   promised r n v e =
-      let a = ap number e ∙ (parts n v).0 in (a, ap value e ∙ (parts n v).1 ∙ ap (λ (k : ℕ). valueUnless k v) (sym a))
+      let a = ap number e ∙ (parts n v).0 in (a, ap value e ∙ (parts n v).1 ∙ ap (λ (k : ℕ). value_unless k v) (sym a))
 
   -- an answer without a value was refused, with its number
   pub refused : (r : A) (n m : ℕ) (v : X) → r ≡ answer m v → number r ≡ n → value r ≡ none → (m ≡ n) × (m ≡ 0 → ⊥)
   refused r n m v e p q = (sym (parts m v).0 ∙ sym (ap number e) ∙ p, λ z. at m z (sym q ∙ ap value e ∙ (parts m v).1))
     where
-      at : (m : ℕ) → m ≡ 0 → none ≡ valueUnless m v → ⊥
+      at : (m : ℕ) → m ≡ 0 → none ≡ value_unless m v → ⊥
       at zero z o = let b = ap is_some o in let y : ◌≡◌ {A = ℕ} 0 1 = cc in absurd (omega arith)
       at (suc m) z o = absurd (omega arith)
 
@@ -49,70 +49,70 @@ module _ {A X : Type 0} (answer : ℕ → X → A) (number : A → ℕ) (value :
   pub given : (r : A) (m : ℕ) (v x : X) → r ≡ answer m v → value r ≡ some x → (m ≡ 0) × (x ≡ v)
   given r m v x e q = at m (sym q ∙ ap value e ∙ (parts m v).1)
     where
-      at : (m : ℕ) → some x ≡ valueUnless m v → (m ≡ 0) × (x ≡ v)
-      at zero o = (refl, ap (valueOr x) o)
+      at : (m : ℕ) → some x ≡ value_unless m v → (m ≡ 0) × (x ≡ v)
+      at zero o = (refl, ap (value_or x) o)
       at (suc m) o = let b = ap is_some o in let y : ◌≡◌ {A = ℕ} 0 1 = cc in absurd (omega arith)
 
 -- what is written, and what is kept
-pub written : {A : Type 0} (m : ℕ) (q p : A) → m ≡ 0 → unlessRefused m q p ≡ q
+pub written : {A : Type 0} (m : ℕ) (q p : A) → m ≡ 0 → unless_refused m q p ≡ q
 written m q p e = rw e
 
-pub kept : {A : Type 0} (m : ℕ) (q p : A) → (m ≡ 0 → ⊥) → unlessRefused m q p ≡ p
+pub kept : {A : Type 0} (m : ℕ) (q p : A) → (m ≡ 0 → ⊥) → unless_refused m q p ≡ p
 kept zero q p h = absurd (h refl)
 kept (suc m) q p h = refl
 
 -- ---- deltas
-delta-parts : (n : ℕ) (v : ℤ) → (deltaNumber (deltaAnswer n v) ≡ n) × (deltaValue (deltaAnswer n v) ≡ valueUnless n v)
-delta-parts zero v = (refl, refl)
-delta-parts (suc n) v = (refl, refl)
+delta_parts : (n : ℕ) (v : ℤ) → (delta_number (delta_answer n v) ≡ n) × (delta_value (delta_answer n v) ≡ value_unless n v)
+delta_parts zero v = (refl, refl)
+delta_parts (suc n) v = (refl, refl)
 
-pub delta-all : (r : ComputedDelta) (n : ℕ) (v : ℤ)
-    → r ≡ deltaAnswer n v
-    → (r ≡ deltaAnswer n v) × ((deltaNumber r ≡ n) × (deltaValue r ≡ valueUnless (deltaNumber r) v))
-delta-all r n v e = (e, promised deltaAnswer deltaNumber deltaValue delta-parts r n v e)
+pub delta_all : (r : ComputedDelta) (n : ℕ) (v : ℤ)
+    → r ≡ delta_answer n v
+    → (r ≡ delta_answer n v) × ((delta_number r ≡ n) × (delta_value r ≡ value_unless (delta_number r) v))
+delta_all r n v e = (e, promised delta_answer delta_number delta_value delta_parts r n v e)
 
 -- ---- ranges
 
 -- ---- components
-component-parts : (n : ℕ) (v : ReconstructedComponent)
-    → (reconstructedNumber (reconstructedAnswer n v) ≡ n) × (reconstructedValue (reconstructedAnswer n v) ≡ valueUnless n v)
-component-parts zero v = (refl, refl)
-component-parts (suc n) v = (refl, refl)
+component_parts : (n : ℕ) (v : ReconstructedComponent)
+    → (reconstructed_number (reconstructed_answer n v) ≡ n) × (reconstructed_value (reconstructed_answer n v) ≡ value_unless n v)
+component_parts zero v = (refl, refl)
+component_parts (suc n) v = (refl, refl)
 
-pub component-all : (r : Reconstructed) (n : ℕ) (v : ReconstructedComponent)
-    → r ≡ reconstructedAnswer n v
-    → (r ≡ reconstructedAnswer n v) × ((reconstructedNumber r ≡ n) × (reconstructedValue r ≡ valueUnless (reconstructedNumber r) v))
-component-all r n v e = (e, promised reconstructedAnswer reconstructedNumber reconstructedValue component-parts r n v e)
+pub component_all : (r : Reconstructed) (n : ℕ) (v : ReconstructedComponent)
+    → r ≡ reconstructed_answer n v
+    → (r ≡ reconstructed_answer n v) × ((reconstructed_number r ≡ n) × (reconstructed_value r ≡ value_unless (reconstructed_number r) v))
+component_all r n v e = (e, promised reconstructed_answer reconstructed_number reconstructed_value component_parts r n v e)
 
-pub component-refused : (n m : ℕ) (v : ReconstructedComponent) → C.Refused n ≡ reconstructedAnswer m v → (m ≡ n) × (m ≡ 0 → ⊥)
-component-refused n m v e =
-    refused reconstructedAnswer reconstructedNumber reconstructedValue component-parts (C.Refused n) n m v e refl refl
+pub component_refused : (n m : ℕ) (v : ReconstructedComponent) → C.Refused n ≡ reconstructed_answer m v → (m ≡ n) × (m ≡ 0 → ⊥)
+component_refused n m v e =
+    refused reconstructed_answer reconstructed_number reconstructed_value component_parts (C.Refused n) n m v e refl refl
 
-pub component-given : (m : ℕ) (v x : ReconstructedComponent) → C.Component x ≡ reconstructedAnswer m v → (m ≡ 0) × (x ≡ v)
-component-given m v x e = given reconstructedAnswer reconstructedNumber reconstructedValue component-parts (C.Component x) m v x e refl
+pub component_given : (m : ℕ) (v x : ReconstructedComponent) → C.Component x ≡ reconstructed_answer m v → (m ≡ 0) × (x ≡ v)
+component_given m v x e = given reconstructed_answer reconstructed_number reconstructed_value component_parts (C.Component x) m v x e refl
 
 -- ---- vectors
-vector-parts : (n : ℕ) (v : VectorComponents) → (vectorNumber (vectorAnswer n v) ≡ n) × (vectorValue (vectorAnswer n v) ≡ valueUnless n v)
-vector-parts zero v = (refl, refl)
-vector-parts (suc n) v = (refl, refl)
+vector_parts : (n : ℕ) (v : VectorComponents) → (vector_number (vector_answer n v) ≡ n) × (vector_value (vector_answer n v) ≡ value_unless n v)
+vector_parts zero v = (refl, refl)
+vector_parts (suc n) v = (refl, refl)
 
-pub vector-promised : (r : ReconstructedVector) (n : ℕ) (v : VectorComponents)
-    → r ≡ vectorAnswer n v → (vectorNumber r ≡ n) × (vectorValue r ≡ valueUnless (vectorNumber r) v)
-vector-promised r n v e = promised vectorAnswer vectorNumber vectorValue vector-parts r n v e
+pub vector_promised : (r : ReconstructedVector) (n : ℕ) (v : VectorComponents)
+    → r ≡ vector_answer n v → (vector_number r ≡ n) × (vector_value r ≡ value_unless (vector_number r) v)
+vector_promised r n v e = promised vector_answer vector_number vector_value vector_parts r n v e
 
 -- ---- updates
-update-parts : (n : ℕ) (v : PmvUpdateOutcome) → (updateNumber (updateAnswer n v) ≡ n) × (updateValue (updateAnswer n v) ≡ valueUnless n v)
-update-parts zero v = (refl, refl)
-update-parts (suc n) v = (refl, refl)
+update_parts : (n : ℕ) (v : PmvUpdateOutcome) → (update_number (update_answer n v) ≡ n) × (update_value (update_answer n v) ≡ value_unless n v)
+update_parts zero v = (refl, refl)
+update_parts (suc n) v = (refl, refl)
 
-pub updated-all : (r : PredictorUpdate) (pmv : Pmv) (x : PmvUpdateContext)
+pub updated_all : (r : PredictorUpdate) (pmv : Pmv) (x : PmvUpdateContext)
     → r ≡ updated pmv x
     → (r ≡ updated pmv x)
-    × ((updateNumber r.answer ≡ updateRefusal x)
-    × (updateValue r.answer ≡ valueUnless (updateNumber r.answer) (updateOutcome x)))
+    × ((update_number r.answer ≡ update_refusal x)
+    × (update_value r.answer ≡ value_unless (update_number r.answer) (update_outcome x)))
 unfolding updated
-updated-all r pmv x e = (
+updated_all r pmv x e = (
   e,
-  promised updateAnswer updateNumber updateValue update-parts r.answer (updateRefusal x) (updateOutcome x)
+  promised update_answer update_number update_value update_parts r.answer (update_refusal x) (update_outcome x)
       (ap (λ (u : PredictorUpdate). u.answer) e),
 )

@@ -15,13 +15,13 @@ abbrev pub listed : ℕ → (ℕ → ℤ) → List ℤ
 listed zero f = []
 listed (suc n) f = f zero ∷ listed n (λ (k : ℕ). f (suc k))
 
-listed-ext : (n : ℕ) (f g : ℕ → ℤ) → ((i : ℕ) → f i ≡ g i) → listed n f ≡ listed n g
-listed-ext zero f g h = refl
-listed-ext (suc n) f g h = rw (h zero, listed-ext n (λ (k : ℕ). f (suc k)) (λ (k : ℕ). g (suc k)) (λ i. h (suc i)))
+listed_ext : (n : ℕ) (f g : ℕ → ℤ) → ((i : ℕ) → f i ≡ g i) → listed n f ≡ listed n g
+listed_ext zero f g h = refl
+listed_ext (suc n) f g h = rw (h zero, listed_ext n (λ (k : ℕ). f (suc k)) (λ (k : ℕ). g (suc k)) (λ i. h (suc i)))
 
-listed-self : (l : List ℤ) → listed (length l) (λ (k : ℕ). get_or l k (pos 0)) ≡ l
-listed-self [] = refl
-listed-self (x ∷ l) = ap (λ (t : List ℤ). x ∷ t) (listed-self l)
+listed_self : (l : List ℤ) → listed (length l) (λ (k : ℕ). get_or l k (pos 0)) ≡ l
+listed_self [] = refl
+listed_self (x ∷ l) = ap (λ (t : List ℤ). x ∷ t) (listed_self l)
 
 same_test : (k i : ℕ) → eqb (suc k) (suc i) ≡ eqb k i
 same_test k i = at (eqb k i) refl
@@ -35,16 +35,16 @@ pub set_is : (l : List ℤ) (k : ℕ) (v : ℤ) → listed (length l) (λ (i : �
 set_is [] k v = refl
 set_is (x ∷ l) zero v =
     ap (λ (t : List ℤ). v ∷ t)
-    (listed-ext (length l) _ _ (λ i. rw (ne_eqb 0 (suc i) (λ q. absurd (omega arith)))) ∙ listed-self l)
+    (listed_ext (length l) _ _ (λ i. rw (ne_eqb 0 (suc i) (λ q. absurd (omega arith)))) ∙ listed_self l)
 set_is (x ∷ l) (suc k) v =
     rw (ne_eqb (suc k) 0 (λ q. absurd (omega arith)))
-    (ap (λ (t : List ℤ). x ∷ t) (listed-ext (length l) _ _ (λ i. rw (same_test k i)) ∙ set_is l k v))
+    (ap (λ (t : List ℤ). x ∷ t) (listed_ext (length l) _ _ (λ i. rw (same_test k i)) ∙ set_is l k v))
 
-pub listed-eight : (l : List ℤ) → length l ≡ 8 → listed 8 (λ (k : ℕ). get_or l k (pos 0)) ≡ l
-listed-eight l n = ap (λ (m : ℕ). listed m (λ (k : ℕ). get_or l k (pos 0))) (sym n) ∙ listed-self l
+pub listed_eight : (l : List ℤ) → length l ≡ 8 → listed 8 (λ (k : ℕ). get_or l k (pos 0)) ≡ l
+listed_eight l n = ap (λ (m : ℕ). listed m (λ (k : ℕ). get_or l k (pos 0))) (sym n) ∙ listed_self l
 
 -- eight that are written out
-pub eight-set : (l : List ℤ) (k : ℕ) (v : ℤ) {a b c d e f g h : ℤ} → length l ≡ 8
+pub eight_set : (l : List ℤ) (k : ℕ) (v : ℤ) {a b c d e f g h : ℤ} → length l ≡ 8
     → a ≡ cond (eqb k 0) v (get_or l 0 (pos 0))
     → b ≡ cond (eqb k 1) v (get_or l 1 (pos 0))
     → c ≡ cond (eqb k 2) v (get_or l 2 (pos 0))
@@ -54,6 +54,6 @@ pub eight-set : (l : List ℤ) (k : ℕ) (v : ℤ) {a b c d e f g h : ℤ} → l
     → g ≡ cond (eqb k 6) v (get_or l 6 (pos 0))
     → h ≡ cond (eqb k 7) v (get_or l 7 (pos 0))
     → a ∷ b ∷ c ∷ d ∷ e ∷ f ∷ g ∷ h ∷ [] ≡ set l k v
-eight-set l k v n p q r s t u w x =
+eight_set l k v n p q r s t u w x =
     rw (p, q, r, s, t, u, w, x)
     (ap (λ (m : ℕ). listed m (λ (i : ℕ). cond (eqb k i) v (get_or l i (pos 0)))) (sym n) ∙ set_is l k v)

@@ -7,8 +7,8 @@ use native.Mathlib.Omega.{arith}
 use borrow.Author.Tests.{ne_eqb}
 use Rattle.forming_predictions.specs.declared.FieldParity.{FieldParity}
 use Rattle.forming_predictions.specs.declared.FieldParity.TheVariants.{Top, Bottom}
-use Rattle.pmv.specs.Kinds.{componentNumber, directionNumber, directionFrom, indexNumber, indexFrom, formatNumber, formatFrom, structureNumber, structureFrom, typeNumber, typeFrom, chromaNumber, chromaFrom, parityFrom, flagFrom}
-use Rattle.forming_predictions.specs.Lines.{parityRow}
+use Rattle.pmv.specs.Kinds.{component_number, direction_number, direction_from, index_number, index_from, format_number, format_from, structure_number, structure_from, type_number, type_from, chroma_number, chroma_from, parity_from, flag_from}
+use Rattle.forming_predictions.specs.Lines.{parity_row}
 use Rattle.pmv.specs.declared.kinds.Component.{Component}
 use Rattle.pmv.specs.declared.kinds.Component.TheVariants.{Horizontal, Vertical}
 use Rattle.pmv.specs.declared.kinds.Direction.{Direction}
@@ -27,74 +27,74 @@ use Rattle.pmv.specs.declared.kinds.OptionFieldParity.TheVariants as OptionField
 use Rattle.pmv.specs.declared.kinds.OptionFlag.TheVariants as OptionFlag
 
 -- ---- the indices of a predictor
-pub component-le : (t : Component) → componentNumber t ≤ 1
-component-le Horizontal = omega arith
-component-le Vertical = omega arith
+pub component_le : (t : Component) → component_number t ≤ 1
+component_le Horizontal = omega arith
+component_le Vertical = omega arith
 
-pub direction-le : (s : Direction) → directionNumber s ≤ 1
-direction-le Direction.Forward = omega arith
-direction-le Direction.Backward = omega arith
+pub direction_le : (s : Direction) → direction_number s ≤ 1
+direction_le Direction.Forward = omega arith
+direction_le Direction.Backward = omega arith
 
-pub index-le : (r : VectorIndex) → indexNumber r ≤ 1
+pub index-le : (r : VectorIndex) → index_number r ≤ 1
 index-le VectorIndex.First = omega arith
 index-le VectorIndex.Second = omega arith
 
 -- ---- a kind's number means the kind, and a parity's row the parity; a larger number means none
-pub direction-back : (k : Direction) → directionFrom (directionNumber k) ≡ OptionDirection.Some k
-direction-back Direction.Forward = refl
-direction-back Direction.Backward = refl
+pub direction_back : (k : Direction) → direction_from (direction_number k) ≡ OptionDirection.Some k
+direction_back Direction.Forward = refl
+direction_back Direction.Backward = refl
 
-pub direction-none : (n : ℕ) → 2 ≤ n → directionFrom n ≡ OptionDirection.None
-direction-none n h = rw (ne_eqb n 0 (λ e. absurd (omega arith)), ne_eqb n 1 (λ e. absurd (omega arith)))
+pub direction_none : (n : ℕ) → 2 ≤ n → direction_from n ≡ OptionDirection.None
+direction_none n h = rw (ne_eqb n 0 (λ e. absurd (omega arith)), ne_eqb n 1 (λ e. absurd (omega arith)))
 
-pub index_back : (k : VectorIndex) → indexFrom (indexNumber k) ≡ OptionVectorIndex.Some k
+pub index_back : (k : VectorIndex) → index_from (index_number k) ≡ OptionVectorIndex.Some k
 index_back VectorIndex.First = refl
 index_back VectorIndex.Second = refl
 
-pub index-none : (n : ℕ) → 2 ≤ n → indexFrom n ≡ OptionVectorIndex.None
+pub index-none : (n : ℕ) → 2 ≤ n → index_from n ≡ OptionVectorIndex.None
 index-none n h = rw (ne_eqb n 0 (λ e. absurd (omega arith)), ne_eqb n 1 (λ e. absurd (omega arith)))
 
-pub format_back : (k : MvFormat) → formatFrom (formatNumber k) ≡ OptionMvFormat.Some k
+pub format_back : (k : MvFormat) → format_from (format_number k) ≡ OptionMvFormat.Some k
 format_back MvFormat.Field = refl
 format_back MvFormat.Frame = refl
 
-pub format-none : (n : ℕ) → 2 ≤ n → formatFrom n ≡ OptionMvFormat.None
-format-none n h = rw (ne_eqb n 0 (λ e. absurd (omega arith)), ne_eqb n 1 (λ e. absurd (omega arith)))
+pub format_none : (n : ℕ) → 2 ≤ n → format_from n ≡ OptionMvFormat.None
+format_none n h = rw (ne_eqb n 0 (λ e. absurd (omega arith)), ne_eqb n 1 (λ e. absurd (omega arith)))
 
-pub structure-back : (k : PictureStructure) → structureFrom (structureNumber k) ≡ OptionPictureStructure.Some k
-structure-back PictureStructure.TopField = refl
-structure-back PictureStructure.BottomField = refl
-structure-back PictureStructure.Frame = refl
+pub structure_back : (k : PictureStructure) → structure_from (structure_number k) ≡ OptionPictureStructure.Some k
+structure_back PictureStructure.TopField = refl
+structure_back PictureStructure.BottomField = refl
+structure_back PictureStructure.Frame = refl
 
-pub structure-none : (n : ℕ) → 3 ≤ n → structureFrom n ≡ OptionPictureStructure.None
-structure-none n h = rw (ne_eqb n 0 (λ e. absurd (omega arith)), ne_eqb n 1 (λ e. absurd (omega arith)), ne_eqb n 2 (λ e. absurd (omega arith)))
+pub structure_none : (n : ℕ) → 3 ≤ n → structure_from n ≡ OptionPictureStructure.None
+structure_none n h = rw (ne_eqb n 0 (λ e. absurd (omega arith)), ne_eqb n 1 (λ e. absurd (omega arith)), ne_eqb n 2 (λ e. absurd (omega arith)))
 
-pub type-back : (k : PredictionType) → typeFrom (typeNumber k) ≡ OptionPredictionType.Some k
-type-back PredictionType.FieldBased = refl
-type-back PredictionType.FrameBased = refl
-type-back PredictionType.SixteenByEight = refl
-type-back PredictionType.DualPrime = refl
+pub type_back : (k : PredictionType) → type_from (type_number k) ≡ OptionPredictionType.Some k
+type_back PredictionType.FieldBased = refl
+type_back PredictionType.FrameBased = refl
+type_back PredictionType.SixteenByEight = refl
+type_back PredictionType.DualPrime = refl
 
-pub type-none : (n : ℕ) → 4 ≤ n → typeFrom n ≡ OptionPredictionType.None
-type-none n h = rw (ne_eqb n 0 (λ e. absurd (omega arith)), ne_eqb n 1 (λ e. absurd (omega arith)), ne_eqb n 2 (λ e. absurd (omega arith)), ne_eqb n 3 (λ e. absurd (omega arith)))
+pub type_none : (n : ℕ) → 4 ≤ n → type_from n ≡ OptionPredictionType.None
+type_none n h = rw (ne_eqb n 0 (λ e. absurd (omega arith)), ne_eqb n 1 (λ e. absurd (omega arith)), ne_eqb n 2 (λ e. absurd (omega arith)), ne_eqb n 3 (λ e. absurd (omega arith)))
 
-pub chroma-back : (k : ChromaFormat) → chromaFrom (chromaNumber k) ≡ OptionChromaFormat.Some k
-chroma-back ChromaFormat.Yuv420 = refl
-chroma-back ChromaFormat.Yuv422 = refl
-chroma-back ChromaFormat.Yuv444 = refl
+pub chroma_back : (k : ChromaFormat) → chroma_from (chroma_number k) ≡ OptionChromaFormat.Some k
+chroma_back ChromaFormat.Yuv420 = refl
+chroma_back ChromaFormat.Yuv422 = refl
+chroma_back ChromaFormat.Yuv444 = refl
 
-pub chroma-none : (n : ℕ) → 3 ≤ n → chromaFrom n ≡ OptionChromaFormat.None
-chroma-none n h = rw (ne_eqb n 0 (λ e. absurd (omega arith)), ne_eqb n 1 (λ e. absurd (omega arith)), ne_eqb n 2 (λ e. absurd (omega arith)))
+pub chroma_none : (n : ℕ) → 3 ≤ n → chroma_from n ≡ OptionChromaFormat.None
+chroma_none n h = rw (ne_eqb n 0 (λ e. absurd (omega arith)), ne_eqb n 1 (λ e. absurd (omega arith)), ne_eqb n 2 (λ e. absurd (omega arith)))
 
-pub parity-back : (k : FieldParity) → parityFrom (parityRow k) ≡ OptionFieldParity.Some k
-parity-back Top = refl
-parity-back Bottom = refl
+pub parity_back : (k : FieldParity) → parity_from (parity_row k) ≡ OptionFieldParity.Some k
+parity_back Top = refl
+parity_back Bottom = refl
 
-pub parity-none : (n : ℕ) → 2 ≤ n → parityFrom n ≡ OptionFieldParity.None
-parity-none n h = rw (ne_eqb n 0 (λ e. absurd (omega arith)), ne_eqb n 1 (λ e. absurd (omega arith)))
+pub parity_none : (n : ℕ) → 2 ≤ n → parity_from n ≡ OptionFieldParity.None
+parity_none n h = rw (ne_eqb n 0 (λ e. absurd (omega arith)), ne_eqb n 1 (λ e. absurd (omega arith)))
 
-pub flag-back : (flagFrom 0 ≡ OptionFlag.Some false) × (flagFrom 1 ≡ OptionFlag.Some true)
-flag-back = (refl, refl)
+pub flag_back : (flag_from 0 ≡ OptionFlag.Some false) × (flag_from 1 ≡ OptionFlag.Some true)
+flag_back = (refl, refl)
 
-pub flag-none : (n : ℕ) → 2 ≤ n → flagFrom n ≡ OptionFlag.None
-flag-none n h = rw (ne_eqb n 0 (λ e. absurd (omega arith)), ne_eqb n 1 (λ e. absurd (omega arith)))
+pub flag_none : (n : ℕ) → 2 ≤ n → flag_from n ≡ OptionFlag.None
+flag_none n h = rw (ne_eqb n 0 (λ e. absurd (omega arith)), ne_eqb n 1 (λ e. absurd (omega arith)))

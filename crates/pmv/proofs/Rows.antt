@@ -9,10 +9,10 @@ use borrow.Author.Tests.{lt-ltb}
 use lib.Dec.{T, ltb, eqb, eqb→eq}
 use lib.IntN.{ℤ, pos}
 use lib.ListN.{length, get_or}
-use Rattle.combine_predictions.specs.Refusals.{unlessRefused}
-use Rattle.pmv.specs.Answers.{updateAnswer}
-use Rattle.pmv.specs.Update.{decidedRefusal, decidedOutcome, outcomeNumber, after}
-use Rattle.pmv.specs.inner.Rows.{outcomes, rowFor, outcomeOf, answer_of, has, written, carriedOut}
+use Rattle.combine_predictions.specs.Refusals.{unless_refused}
+use Rattle.pmv.specs.Answers.{update_answer}
+use Rattle.pmv.specs.Update.{decided_refusal, decided_outcome, outcome_number, after}
+use Rattle.pmv.specs.inner.Rows.{outcomes, row_for, outcome_of, answer_of, has, written, carried_out}
 use Rattle.pmv.specs.declared.kinds.PredictionType.{PredictionType}
 use Rattle.pmv.specs.declared.kinds.PredictionType.TheVariants.{FieldBased, FrameBased, SixteenByEight, DualPrime}
 use Rattle.pmv.specs.declared.kinds.MotionType.{MotionType}
@@ -22,7 +22,7 @@ use Rattle.pmv.specs.declared.update.PmvUpdateOutcome.{PmvUpdateOutcome}
 use Rattle.pmv.specs.declared.update.PmvUpdateOutcome.TheVariants as O
 use Rattle.pmv.specs.declared.update.Updated.{Updated}
 use Rattle.pmv.specs.declared.update.Updated.TheVariants.{Outcome, Refused}
-use Rattle.pmv.proofs.Lists.{listed-eight}
+use Rattle.pmv.proofs.Lists.{listed_eight}
 
 -- ---- a test that is passed at each flag and at each type, absent or not
 abbrev both : Bool → Bool → Bool
@@ -43,12 +43,12 @@ flags f = both (f false) (f true)
 abbrev types : (PredictionType → Bool) → Bool
 types f = both (both (f FieldBased) (f FrameBased)) (both (f SixteenByEight) (f DualPrime))
 
-flags-at : (f : Bool → Bool) → T (flags f) → (b : Bool) → T (f b)
-flags-at f t false = left (f false) (f true) t
-flags-at f t true = right (f false) (f true) t
+flags_at : (f : Bool → Bool) → T (flags f) → (b : Bool) → T (f b)
+flags_at f t false = left (f false) (f true) t
+flags_at f t true = right (f false) (f true) t
 
-types-at : (f : PredictionType → Bool) → T (types f) → (p : PredictionType) → T (f p)
-types-at f t p = at p
+types_at : (f : PredictionType → Bool) → T (types f) → (p : PredictionType) → T (f p)
+types_at f t p = at p
   where
     first : T (both (f FieldBased) (f FrameBased))
     first = left (both (f FieldBased) (f FrameBased)) (both (f SixteenByEight) (f DualPrime)) t
@@ -65,18 +65,18 @@ types-at f t p = at p
 motions : (MotionType → Bool) → Bool
 motions f = both (f Absent) (types (λ t. f (Present t)))
 
-motions-at : (f : MotionType → Bool) → T (motions f) → (m : MotionType) → T (f m)
+motions_at : (f : MotionType → Bool) → T (motions f) → (m : MotionType) → T (f m)
 unfolding motions
-motions-at f t Absent = left (f Absent) (types (λ t. f (Present t))) t
-motions-at f t (Present p) = types-at (λ t. f (Present t)) (right (f Absent) (types (λ t. f (Present t))) t) p
+motions_at f t Absent = left (f Absent) (types (λ t. f (Present t))) t
+motions_at f t (Present p) = types_at (λ t. f (Present t)) (right (f Absent) (types (λ t. f (Present t))) t) p
 
 -- ---- answers as numbers, so that a test can compare them
 abbrev code_of : Updated → ℕ
-code_of (Outcome o) = outcomeNumber o
+code_of (Outcome o) = outcome_number o
 code_of (Refused n) = 16 + n
 
-updatedOf : ℕ → Updated
-updatedOf k =
+updated_of : ℕ → Updated
+updated_of k =
     pick (ltb 15 k) (Refused (k - 16))
     (pick (eqb k 0) (Outcome O.IntraConcealmentCopyForwardFirst)
     (pick (eqb k 1) (Outcome O.IntraResetAll)
@@ -90,11 +90,11 @@ updatedOf k =
     pick true a b = a
     pick false a b = b
 
-code-back : (u : Updated) → updatedOf (code_of u) ≡ u
-unfolding updatedOf
-code-back (Outcome o) = at o
+code_back : (u : Updated) → updated_of (code_of u) ≡ u
+unfolding updated_of
+code_back (Outcome o) = at o
   where
-    at : (o : PmvUpdateOutcome) → updatedOf (outcomeNumber o) ≡ Outcome o
+    at : (o : PmvUpdateOutcome) → updated_of (outcome_number o) ≡ Outcome o
     at O.IntraConcealmentCopyForwardFirst = refl
     at O.IntraResetAll = refl
     at O.NonIntraCopyBoth = refl
@@ -103,10 +103,10 @@ code-back (Outcome o) = at o
     at O.NonIntraZeroMotionReset = refl
     at O.NoUpdate = refl
     at O.DualPrimeCopyForward = refl
-code-back (Refused n) = let e : 16 + n - 16 ≡ n = omega arith in rw (lt-ltb 15 (16 + n) (omega arith), e)
+code_back (Refused n) = let e : 16 + n - 16 ≡ n = omega arith in rw (lt-ltb 15 (16 + n) (omega arith), e)
 
 same_code : (a b : Updated) → code_of a ≡ code_of b → a ≡ b
-same_code a b e = sym (code-back a) ∙ ap updatedOf e ∙ code-back b
+same_code a b e = sym (code_back a) ∙ ap updated_of e ∙ code_back b
 
 -- ---- what an answer does to the predictors
 abbrev zeroes : Updated → Bool
@@ -120,30 +120,30 @@ zeroes (Outcome O.NoUpdate) = false
 zeroes (Outcome O.DualPrimeCopyForward) = false
 zeroes (Refused n) = false
 
-abbrev copiesForward : Updated → Bool
-copiesForward (Outcome O.IntraConcealmentCopyForwardFirst) = true
-copiesForward (Outcome O.IntraResetAll) = false
-copiesForward (Outcome O.NonIntraCopyBoth) = true
-copiesForward (Outcome O.NonIntraCopyForward) = true
-copiesForward (Outcome O.NonIntraCopyBackward) = false
-copiesForward (Outcome O.NonIntraZeroMotionReset) = false
-copiesForward (Outcome O.NoUpdate) = false
-copiesForward (Outcome O.DualPrimeCopyForward) = true
-copiesForward (Refused n) = false
+abbrev copies_forward : Updated → Bool
+copies_forward (Outcome O.IntraConcealmentCopyForwardFirst) = true
+copies_forward (Outcome O.IntraResetAll) = false
+copies_forward (Outcome O.NonIntraCopyBoth) = true
+copies_forward (Outcome O.NonIntraCopyForward) = true
+copies_forward (Outcome O.NonIntraCopyBackward) = false
+copies_forward (Outcome O.NonIntraZeroMotionReset) = false
+copies_forward (Outcome O.NoUpdate) = false
+copies_forward (Outcome O.DualPrimeCopyForward) = true
+copies_forward (Refused n) = false
 
-abbrev copiesBackward : Updated → Bool
-copiesBackward (Outcome O.IntraConcealmentCopyForwardFirst) = false
-copiesBackward (Outcome O.IntraResetAll) = false
-copiesBackward (Outcome O.NonIntraCopyBoth) = true
-copiesBackward (Outcome O.NonIntraCopyForward) = false
-copiesBackward (Outcome O.NonIntraCopyBackward) = true
-copiesBackward (Outcome O.NonIntraZeroMotionReset) = false
-copiesBackward (Outcome O.NoUpdate) = false
-copiesBackward (Outcome O.DualPrimeCopyForward) = false
-copiesBackward (Refused n) = false
+abbrev copies_backward : Updated → Bool
+copies_backward (Outcome O.IntraConcealmentCopyForwardFirst) = false
+copies_backward (Outcome O.IntraResetAll) = false
+copies_backward (Outcome O.NonIntraCopyBoth) = true
+copies_backward (Outcome O.NonIntraCopyForward) = false
+copies_backward (Outcome O.NonIntraCopyBackward) = true
+copies_backward (Outcome O.NonIntraZeroMotionReset) = false
+copies_backward (Outcome O.NoUpdate) = false
+copies_backward (Outcome O.DualPrimeCopyForward) = false
+copies_backward (Refused n) = false
 
 -- the eight, as the code writes them
-pub eight-written : (z f b : Bool) (l : List ℤ) {x0 x1 x2 x3 x4 x5 x6 x7 : ℤ}
+pub eight_written : (z f b : Bool) (l : List ℤ) {x0 x1 x2 x3 x4 x5 x6 x7 : ℤ}
     → x0 ≡ cond z (pos 0) (get_or l 0 (pos 0))
     → x1 ≡ cond z (pos 0) (get_or l 1 (pos 0))
     → x2 ≡ cond z (pos 0) (get_or l 2 (pos 0))
@@ -154,30 +154,30 @@ pub eight-written : (z f b : Bool) (l : List ℤ) {x0 x1 x2 x3 x4 x5 x6 x7 : ℤ
     → x7 ≡ cond z (pos 0) (cond b (get_or l 3 (pos 0)) (get_or l 7 (pos 0)))
     → x0 ∷ x1 ∷ x2 ∷ x3 ∷ x4 ∷ x5 ∷ x6 ∷ x7 ∷ [] ≡ written z f b l
 unfolding written
-eight-written z f b l p q r s t u w x = rw (p, q, r, s, t, u, w, x)
+eight_written z f b l p q r s t u w x = rw (p, q, r, s, t, u, w, x)
 
 -- they are those of the definition
-eight-after : (o : PmvUpdateOutcome) (x0 x1 x2 x3 x4 x5 x6 x7 : ℤ)
+eight_after : (o : PmvUpdateOutcome) (x0 x1 x2 x3 x4 x5 x6 x7 : ℤ)
     → let l = x0 ∷ x1 ∷ x2 ∷ x3 ∷ x4 ∷ x5 ∷ x6 ∷ x7 ∷ [] in
-    written (zeroes (Outcome o)) (copiesForward (Outcome o)) (copiesBackward (Outcome o)) l ≡ (after o (record { values = l })).values
+    written (zeroes (Outcome o)) (copies_forward (Outcome o)) (copies_backward (Outcome o)) l ≡ (after o (record { values = l })).values
 unfolding written
-eight-after O.IntraConcealmentCopyForwardFirst x0 x1 x2 x3 x4 x5 x6 x7 = refl
-eight-after O.IntraResetAll x0 x1 x2 x3 x4 x5 x6 x7 = refl
-eight-after O.NonIntraCopyBoth x0 x1 x2 x3 x4 x5 x6 x7 = refl
-eight-after O.NonIntraCopyForward x0 x1 x2 x3 x4 x5 x6 x7 = refl
-eight-after O.NonIntraCopyBackward x0 x1 x2 x3 x4 x5 x6 x7 = refl
-eight-after O.NonIntraZeroMotionReset x0 x1 x2 x3 x4 x5 x6 x7 = refl
-eight-after O.NoUpdate x0 x1 x2 x3 x4 x5 x6 x7 = refl
-eight-after O.DualPrimeCopyForward x0 x1 x2 x3 x4 x5 x6 x7 = refl
+eight_after O.IntraConcealmentCopyForwardFirst x0 x1 x2 x3 x4 x5 x6 x7 = refl
+eight_after O.IntraResetAll x0 x1 x2 x3 x4 x5 x6 x7 = refl
+eight_after O.NonIntraCopyBoth x0 x1 x2 x3 x4 x5 x6 x7 = refl
+eight_after O.NonIntraCopyForward x0 x1 x2 x3 x4 x5 x6 x7 = refl
+eight_after O.NonIntraCopyBackward x0 x1 x2 x3 x4 x5 x6 x7 = refl
+eight_after O.NonIntraZeroMotionReset x0 x1 x2 x3 x4 x5 x6 x7 = refl
+eight_after O.NoUpdate x0 x1 x2 x3 x4 x5 x6 x7 = refl
+eight_after O.DualPrimeCopyForward x0 x1 x2 x3 x4 x5 x6 x7 = refl
 
 written_after : (m : ℕ) (o : PmvUpdateOutcome) (l : List ℤ) → length l ≡ 8
-    → let u = updateAnswer m o in
-    written (zeroes u) (copiesForward u) (copiesBackward u) l ≡ (unlessRefused m (after o (record { values = l })) (record { values = l })).values
+    → let u = update_answer m o in
+    written (zeroes u) (copies_forward u) (copies_backward u) l ≡ (unless_refused m (after o (record { values = l })) (record { values = l })).values
 unfolding written
 written_after zero o l n =
-    rw (listed-eight l n)
-    at (eight-after o (get_or l 0 (pos 0)) (get_or l 1 (pos 0)) (get_or l 2 (pos 0)) (get_or l 3 (pos 0)) (get_or l 4 (pos 0)) (get_or l 5 (pos 0)) (get_or l 6 (pos 0)) (get_or l 7 (pos 0)))
-written_after (suc m) o l n = listed-eight l n
+    rw (listed_eight l n)
+    at (eight_after o (get_or l 0 (pos 0)) (get_or l 1 (pos 0)) (get_or l 2 (pos 0)) (get_or l 3 (pos 0)) (get_or l 4 (pos 0)) (get_or l 5 (pos 0)) (get_or l 6 (pos 0)) (get_or l 7 (pos 0)))
+written_after (suc m) o l n = listed_eight l n
 
 -- ---- the test
 same : Bool → Bool → Bool
@@ -186,43 +186,43 @@ same true false = false
 same false true = false
 same false false = true
 
-same-eq : (a b : Bool) → T (same a b) → a ≡ b
+same_eq : (a b : Bool) → T (same a b) → a ≡ b
 unfolding same
-same-eq true true t = refl
-same-eq true false t = absurd t
-same-eq false true t = absurd t
-same-eq false false t = refl
+same_eq true true t = refl
+same_eq true false t = absurd t
+same_eq false true t = absurd t
+same_eq false false t = refl
 
 abbrev ruled : Bool → MotionType → Bool → Bool → Bool → Bool → Updated
-ruled frame m f b i c = updateAnswer (decidedRefusal frame m f b i) (decidedOutcome frame m f b i c)
+ruled frame m f b i c = update_answer (decided_refusal frame m f b i) (decided_outcome frame m f b i c)
 
 -- a row stands for the rule's answer, and does what that does
 abbrev stands : ℕ → Updated → Bool
 stands row u =
     both (eqb (code_of (answer_of row)) (code_of u))
-    (both (same (has row 4) (zeroes u)) (both (same (has row 1) (copiesForward u)) (same (has row 2) (copiesBackward u))))
+    (both (same (has row 4) (zeroes u)) (both (same (has row 1) (copies_forward u)) (same (has row 2) (copies_backward u))))
 
-right-row : Bool → MotionType → Bool → Bool → Bool → Bool → Bool
-right-row frame m f b i c = stands (rowFor frame m f b i c) (ruled frame m f b i c)
+right_row : Bool → MotionType → Bool → Bool → Bool → Bool → Bool
+right_row frame m f b i c = stands (row_for frame m f b i c) (ruled frame m f b i c)
 
-all_right : T (flags (λ p. motions (λ m. flags (λ f. flags (λ b. flags (λ i. flags (λ c. right-row p m f b i c)))))))
-unfolding outcomes rowFor outcomeOf answer_of motions same right-row decidedRefusal decidedOutcome
+all_right : T (flags (λ p. motions (λ m. flags (λ f. flags (λ b. flags (λ i. flags (λ c. right_row p m f b i c)))))))
+unfolding outcomes row_for outcome_of answer_of motions same right_row decided_refusal decided_outcome
 all_right = tt
 
-agrees : (p : Bool) (m : MotionType) (f b i c : Bool) → T (stands (rowFor p m f b i c) (ruled p m f b i c))
-unfolding right-row
+agrees : (p : Bool) (m : MotionType) (f b i c : Bool) → T (stands (row_for p m f b i c) (ruled p m f b i c))
+unfolding right_row
 agrees p m f b i c =
-    flags-at (λ c. right-row p m f b i c)
-    (flags-at (λ i. flags (λ c. right-row p m f b i c))
-    (flags-at (λ b. flags (λ i. flags (λ c. right-row p m f b i c)))
-    (flags-at (λ f. flags (λ b. flags (λ i. flags (λ c. right-row p m f b i c))))
-    (motions-at (λ m. flags (λ f. flags (λ b. flags (λ i. flags (λ c. right-row p m f b i c)))))
-    (flags-at (λ p. motions (λ m. flags (λ f. flags (λ b. flags (λ i. flags (λ c. right-row p m f b i c)))))) all_right p) m) f) b) i) c
+    flags_at (λ c. right_row p m f b i c)
+    (flags_at (λ i. flags (λ c. right_row p m f b i c))
+    (flags_at (λ b. flags (λ i. flags (λ c. right_row p m f b i c)))
+    (flags_at (λ f. flags (λ b. flags (λ i. flags (λ c. right_row p m f b i c))))
+    (motions_at (λ m. flags (λ f. flags (λ b. flags (λ i. flags (λ c. right_row p m f b i c)))))
+    (flags_at (λ p. motions (λ m. flags (λ f. flags (λ b. flags (λ i. flags (λ c. right_row p m f b i c)))))) all_right p) m) f) b) i) c
 
 -- ---- what it says of a row
 module _ (p : Bool) (m : MotionType) (f b i c : Bool) where
   abbrev row : ℕ
-  row = rowFor p m f b i c
+  row = row_for p m f b i c
 
   abbrev u : Updated
   u = ruled p m f b i c
@@ -233,25 +233,25 @@ module _ (p : Bool) (m : MotionType) (f b i c : Bool) where
   abbrev zero_bit : Bool
   zero_bit = same (has row 4) (zeroes u)
 
-  abbrev forward-bit : Bool
-  forward-bit = same (has row 1) (copiesForward u)
+  abbrev forward_bit : Bool
+  forward_bit = same (has row 1) (copies_forward u)
 
-  abbrev backward-bit : Bool
-  backward-bit = same (has row 2) (copiesBackward u)
+  abbrev backward_bit : Bool
+  backward_bit = same (has row 2) (copies_backward u)
 
   pub answers : answer_of row ≡ u
   answers =
       same_code (answer_of row) u
-      (eqb→eq (code_of (answer_of row)) (code_of u) (left number (both zero_bit (both forward-bit backward-bit)) (agrees p m f b i c)))
+      (eqb→eq (code_of (answer_of row)) (code_of u) (left number (both zero_bit (both forward_bit backward_bit)) (agrees p m f b i c)))
 
   pub does : (pmv : Pmv) → length pmv.values ≡ 8
-      → carriedOut row pmv ≡ unlessRefused (decidedRefusal p m f b i) (after (decidedOutcome p m f b i c) pmv) pmv
+      → carried_out row pmv ≡ unless_refused (decided_refusal p m f b i) (after (decided_outcome p m f b i c) pmv) pmv
   does pmv n =
-      let bits = right number (both zero_bit (both forward-bit backward-bit)) (agrees p m f b i c) in
-      let copies = right zero_bit (both forward-bit backward-bit) bits in
-      let z = same-eq (has row 4) (zeroes u) (left zero_bit (both forward-bit backward-bit) bits) in
-      let x = same-eq (has row 1) (copiesForward u) (left forward-bit backward-bit copies) in
-      let y = same-eq (has row 2) (copiesBackward u) (right forward-bit backward-bit copies) in
+      let bits = right number (both zero_bit (both forward_bit backward_bit)) (agrees p m f b i c) in
+      let copies = right zero_bit (both forward_bit backward_bit) bits in
+      let z = same_eq (has row 4) (zeroes u) (left zero_bit (both forward_bit backward_bit) bits) in
+      let x = same_eq (has row 1) (copies_forward u) (left forward_bit backward_bit copies) in
+      let y = same_eq (has row 2) (copies_backward u) (right forward_bit backward_bit copies) in
       rw (z, x, y)
       (ap (λ (l : List ℤ). record { values = l })
-      (written_after (decidedRefusal p m f b i) (decidedOutcome p m f b i c) pmv.values n))
+      (written_after (decided_refusal p m f b i) (decided_outcome p m f b i c) pmv.values n))

@@ -18,66 +18,66 @@ use Rattle.pmv.specs.declared.update.Updated.{Updated}
 use Rattle.pmv.specs.declared.update.Updated.TheVariants as U
 
 -- compute_delta
-abbrev pub deltaAnswer : ℕ → ℤ → ComputedDelta
-deltaAnswer zero d = D.Delta d
-deltaAnswer (suc n) d = D.Refused (suc n)
+abbrev pub delta_answer : ℕ → ℤ → ComputedDelta
+delta_answer zero d = D.Delta d
+delta_answer (suc n) d = D.Refused (suc n)
 
-abbrev pub deltaNumber : ComputedDelta → ℕ
-deltaNumber (D.Delta d) = 0
-deltaNumber (D.Refused n) = n
+abbrev pub delta_number : ComputedDelta → ℕ
+delta_number (D.Delta d) = 0
+delta_number (D.Refused n) = n
 
-abbrev pub deltaValue : ComputedDelta → Option ℤ
-deltaValue (D.Delta d) = some d
-deltaValue (D.Refused n) = none
+abbrev pub delta_value : ComputedDelta → Option ℤ
+delta_value (D.Delta d) = some d
+delta_value (D.Refused n) = none
 
 -- vector_range
-abbrev pub rangeAnswer : ℕ → VectorRange → FoundRange
-rangeAnswer zero v = Found.Range v
-rangeAnswer (suc n) v = Found.Refused (suc n)
+abbrev pub range_answer : ℕ → VectorRange → FoundRange
+range_answer zero v = Found.Range v
+range_answer (suc n) v = Found.Refused (suc n)
 
-abbrev pub rangeNumber : FoundRange → ℕ
-rangeNumber (Found.Range v) = 0
-rangeNumber (Found.Refused n) = n
+abbrev pub range_number : FoundRange → ℕ
+range_number (Found.Range v) = 0
+range_number (Found.Refused n) = n
 
-abbrev pub rangeValue : FoundRange → Option VectorRange
-rangeValue (Found.Range v) = some v
-rangeValue (Found.Refused n) = none
+abbrev pub range_value : FoundRange → Option VectorRange
+range_value (Found.Range v) = some v
+range_value (Found.Refused n) = none
 
 -- a component
-abbrev pub reconstructedAnswer : ℕ → ReconstructedComponent → Reconstructed
-reconstructedAnswer zero c = C.Component c
-reconstructedAnswer (suc n) c = C.Refused (suc n)
+abbrev pub reconstructed_answer : ℕ → ReconstructedComponent → Reconstructed
+reconstructed_answer zero c = C.Component c
+reconstructed_answer (suc n) c = C.Refused (suc n)
 
-abbrev pub reconstructedNumber : Reconstructed → ℕ
-reconstructedNumber (C.Component c) = 0
-reconstructedNumber (C.Refused n) = n
+abbrev pub reconstructed_number : Reconstructed → ℕ
+reconstructed_number (C.Component c) = 0
+reconstructed_number (C.Refused n) = n
 
-abbrev pub reconstructedValue : Reconstructed → Option ReconstructedComponent
-reconstructedValue (C.Component c) = some c
-reconstructedValue (C.Refused n) = none
+abbrev pub reconstructed_value : Reconstructed → Option ReconstructedComponent
+reconstructed_value (C.Component c) = some c
+reconstructed_value (C.Refused n) = none
 
 -- a vector
-abbrev pub vectorAnswer : ℕ → VectorComponents → ReconstructedVector
-vectorAnswer zero c = Vec.Components c
-vectorAnswer (suc n) c = Vec.Refused (suc n)
+abbrev pub vector_answer : ℕ → VectorComponents → ReconstructedVector
+vector_answer zero c = Vec.Components c
+vector_answer (suc n) c = Vec.Refused (suc n)
 
-abbrev pub vectorNumber : ReconstructedVector → ℕ
-vectorNumber (Vec.Components c) = 0
-vectorNumber (Vec.Refused n) = n
+abbrev pub vector_number : ReconstructedVector → ℕ
+vector_number (Vec.Components c) = 0
+vector_number (Vec.Refused n) = n
 
-abbrev pub vectorValue : ReconstructedVector → Option VectorComponents
-vectorValue (Vec.Components c) = some c
-vectorValue (Vec.Refused n) = none
+abbrev pub vector_value : ReconstructedVector → Option VectorComponents
+vector_value (Vec.Components c) = some c
+vector_value (Vec.Refused n) = none
 
 -- an update
-abbrev pub updateAnswer : ℕ → PmvUpdateOutcome → Updated
-updateAnswer zero o = U.Outcome o
-updateAnswer (suc n) o = U.Refused (suc n)
+abbrev pub update_answer : ℕ → PmvUpdateOutcome → Updated
+update_answer zero o = U.Outcome o
+update_answer (suc n) o = U.Refused (suc n)
 
-abbrev pub updateNumber : Updated → ℕ
-updateNumber (U.Outcome o) = 0
-updateNumber (U.Refused n) = n
+abbrev pub update_number : Updated → ℕ
+update_number (U.Outcome o) = 0
+update_number (U.Refused n) = n
 
-abbrev pub updateValue : Updated → Option PmvUpdateOutcome
-updateValue (U.Outcome o) = some o
-updateValue (U.Refused n) = none
+abbrev pub update_value : Updated → Option PmvUpdateOutcome
+update_value (U.Outcome o) = some o
+update_value (U.Refused n) = none

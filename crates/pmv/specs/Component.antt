@@ -6,10 +6,10 @@
 use Rattle.std.specs.Prelude.{Bool, not, ◌&&◌, cond, ℕ, ◌*◌, ℤ, pos, neg_ℤ, ◌+ℤ◌, ◌-ℤ◌, ◌*ℤ◌}
 use Rattle.std.specs.Int.Signed.{lt_z, le_z}
 use Rattle.combine_predictions.specs.Refusals.{cause, or_else}
-use Rattle.forming_predictions.specs.Splitting.{floorHalf}
-use Rattle.pmv.specs.Kinds.{isFieldFormat, isFramePicture, isVertical}
-use Rattle.pmv.specs.Refusals.{deltaOutside, vectorOutside}
-use Rattle.pmv.specs.Delta.{scale, delta, residualValue, deltaRefusal}
+use Rattle.forming_predictions.specs.Splitting.{floor_half}
+use Rattle.pmv.specs.Kinds.{is_field_format, is_frame_picture, is_vertical}
+use Rattle.pmv.specs.Refusals.{delta_outside, vector_outside}
+use Rattle.pmv.specs.Delta.{scale, delta, residual_value, delta_refusal}
 use Rattle.pmv.specs.declared.kinds.MvFormat.{MvFormat}
 use Rattle.pmv.specs.declared.kinds.PictureStructure.{PictureStructure}
 use Rattle.pmv.specs.declared.kinds.Component.{Component}
@@ -27,11 +27,11 @@ in_range b v = le_z b.low v && le_z v b.high
 
 -- mv_format == "field" && t == 1 && picture_structure == "Frame picture"
 unfoldable pub halves : MvFormat → PictureStructure → Component → Bool
-halves format picture t = isFieldFormat format && (isVertical t && isFramePicture picture)
+halves format picture t = is_field_format format && (is_vertical t && is_frame_picture picture)
 
 -- the prediction: PMV[r][s][t], or PMV[r][s][t] DIV 2
 abbrev pub prediction : Bool → ℤ → ℤ
-prediction halved prior = cond halved (floorHalf prior) prior
+prediction halved prior = cond halved (floor_half prior) prior
 
 -- if (vector' < low) vector' = vector' + range
 abbrev pub raised : VectorRange → ℤ → ℤ
@@ -46,39 +46,39 @@ unfoldable pub wrapped : VectorRange → ℤ → ℤ
 wrapped b v = lowered b (raised b v)
 
 -- vector'[r][s][t]
-abbrev pub vectorOf : VectorRange → Bool → ℤ → ℤ → ℤ
-vectorOf b halved prior d = wrapped b (prediction halved prior +ℤ d)
+abbrev pub vector_of : VectorRange → Bool → ℤ → ℤ → ℤ
+vector_of b halved prior d = wrapped b (prediction halved prior +ℤ d)
 
 -- the new PMV[r][s][t]: vector'[r][s][t], or twice it, which may leave low..high
-abbrev pub newPredictor : Bool → ℤ → ℤ
-newPredictor halved v = cond halved (v *ℤ pos 2) v
+abbrev pub new_predictor : Bool → ℤ → ℤ
+new_predictor halved v = cond halved (v *ℤ pos 2) v
 
 -- what delta gives: total, whatever is refused
-unfoldable pub fromDelta : VectorRange → Bool → ℤ → ℤ → ReconstructedComponent
-fromDelta b halved prior d =
+unfoldable pub from_delta : VectorRange → Bool → ℤ → ℤ → ReconstructedComponent
+from_delta b halved prior d =
     record {
-      vector_prime = vectorOf b halved prior d;
-      new_pmv = newPredictor halved (vectorOf b halved prior d);
+      vector_prime = vector_of b halved prior d;
+      new_pmv = new_predictor halved (vector_of b halved prior d);
       delta = d;
       range = b.range;
     }
 
 -- 5, then 6: 7.6.3.1 demands both ranges of a stream, and refuses nothing
-unfoldable pub fromDeltaRefusal : VectorRange → Bool → ℤ → ℤ → ℕ
-fromDeltaRefusal b halved prior d =
-    or_else (cause (not (in_range b d)) deltaOutside)
-    (cause (not (in_range b (vectorOf b halved prior d))) vectorOutside)
+unfoldable pub from_delta_refusal : VectorRange → Bool → ℤ → ℤ → ℕ
+from_delta_refusal b halved prior d =
+    or_else (cause (not (in_range b d)) delta_outside)
+    (cause (not (in_range b (vector_of b halved prior d))) vector_outside)
 
 -- ---- a component, from what the stream has of it
 
-abbrev pub deltaOf : ℕ → ℤ → MotionResidual → ℤ
-deltaOf fCode code residual = delta (scale fCode) code (residualValue residual)
+abbrev pub delta_of : ℕ → ℤ → MotionResidual → ℤ
+delta_of f_code code residual = delta (scale f_code) code (residual_value residual)
 
-abbrev pub componentOf : ℕ → ℤ → MotionResidual → ℤ → Bool → ReconstructedComponent
-componentOf fCode code residual prior halved = fromDelta (range_of (scale fCode)) halved prior (deltaOf fCode code residual)
+abbrev pub component_of : ℕ → ℤ → MotionResidual → ℤ → Bool → ReconstructedComponent
+component_of f_code code residual prior halved = from_delta (range_of (scale f_code)) halved prior (delta_of f_code code residual)
 
 -- 1, 2, 3 or 4, 5, 6
-abbrev pub componentRefusal : ℕ → ℤ → MotionResidual → ℤ → Bool → ℕ
-componentRefusal fCode code residual prior halved =
-    or_else (deltaRefusal fCode code residual)
-    (fromDeltaRefusal (range_of (scale fCode)) halved prior (deltaOf fCode code residual))
+abbrev pub component_refusal : ℕ → ℤ → MotionResidual → ℤ → Bool → ℕ
+component_refusal f_code code residual prior halved =
+    or_else (delta_refusal f_code code residual)
+    (from_delta_refusal (range_of (scale f_code)) halved prior (delta_of f_code code residual))

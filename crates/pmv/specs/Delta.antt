@@ -3,13 +3,13 @@
 use Rattle.std.specs.Prelude.{Bool, true, false, not, ◌&&◌, ◌||◌, cond, ℕ, ◌+◌, ◌-◌, ◌*◌, ◌^◌, leb, eqb, ℤ, pos, negsuc, neg_ℤ, nat_abs}
 use Rattle.std.specs.Int.Signed.{lt_z, le_z}
 use Rattle.combine_predictions.specs.Refusals.{cause, or_else}
-use Rattle.pmv.specs.Refusals.{fCodeOutside, codeOutside, residualForbidden, residualMissing}
+use Rattle.pmv.specs.Refusals.{f_code_outside, code_outside, residual_forbidden, residual_missing}
 use Rattle.pmv.specs.declared.component.MotionResidual.{MotionResidual}
 use Rattle.pmv.specs.declared.component.MotionResidual.TheVariants.{Absent, Present}
 
 -- f = 1 << r_size, where r_size = f_code - 1
 unfoldable pub scale : ℕ → ℕ
-scale fCode = 2 ^ (fCode - 1)
+scale f_code = 2 ^ (f_code - 1)
 
 -- f == 1 || motion_code == 0: delta is motion_code, and the syntax (6.2.5.2.1) has no motion_residual
 unfoldable pub is_plain : ℕ → ℤ → Bool
@@ -29,37 +29,37 @@ delta f code residual = cond (is_plain f code) code (with_sign code (magnitude f
 
 -- ---- what is refused, in the scope's order
 
-abbrev pub residualIn : MotionResidual → Bool
-residualIn Absent = false
-residualIn (Present n) = true
+abbrev pub residual_in : MotionResidual → Bool
+residual_in Absent = false
+residual_in (Present n) = true
 
 -- the residual's value, 0 for none: any byte, where the standard's has r_size bits
-abbrev pub residualValue : MotionResidual → ℕ
-residualValue Absent = 0
-residualValue (Present n) = n
+abbrev pub residual_value : MotionResidual → ℕ
+residual_value Absent = 0
+residual_value (Present n) = n
 
 -- 6.3.11: 1 to 9 are the f_codes of vectors, and 15 stands for none
-unfoldable pub fCodeFits : ℕ → Bool
-fCodeFits fCode = leb 1 fCode && leb fCode 9
+unfoldable pub f_code_fits : ℕ → Bool
+f_code_fits f_code = leb 1 f_code && leb f_code 9
 
 -- the codes of Table B-10, which the standard does not test for
-unfoldable pub codeFits : ℤ → Bool
-codeFits code = le_z (negsuc 15) code && le_z code (pos 16)
+unfoldable pub code_fits : ℤ → Bool
+code_fits code = le_z (negsuc 15) code && le_z code (pos 16)
 
 -- 3 or 4: the residual is there against the syntax, or is not there against it
-abbrev pub residualRefusal : Bool → MotionResidual → ℕ
-residualRefusal plain residual =
-    or_else (cause (plain && residualIn residual) residualForbidden)
-    (cause (not plain && not (residualIn residual)) residualMissing)
+abbrev pub residual_refusal : Bool → MotionResidual → ℕ
+residual_refusal plain residual =
+    or_else (cause (plain && residual_in residual) residual_forbidden)
+    (cause (not plain && not (residual_in residual)) residual_missing)
 
-abbrev pub fCodeRefusal : ℕ → ℕ
-fCodeRefusal fCode = cause (not (fCodeFits fCode)) fCodeOutside
+abbrev pub f_code_refusal : ℕ → ℕ
+f_code_refusal f_code = cause (not (f_code_fits f_code)) f_code_outside
 
 -- 2, and 3 or 4; f is a parameter
-unfoldable pub codeRefusal : ℕ → ℤ → MotionResidual → ℕ
-codeRefusal f code residual =
-    or_else (cause (not (codeFits code)) codeOutside) (residualRefusal (is_plain f code) residual)
+unfoldable pub code_refusal : ℕ → ℤ → MotionResidual → ℕ
+code_refusal f code residual =
+    or_else (cause (not (code_fits code)) code_outside) (residual_refusal (is_plain f code) residual)
 
 -- 1, and those
-unfoldable pub deltaRefusal : ℕ → ℤ → MotionResidual → ℕ
-deltaRefusal fCode code residual = or_else (fCodeRefusal fCode) (codeRefusal (scale fCode) code residual)
+unfoldable pub delta_refusal : ℕ → ℤ → MotionResidual → ℕ
+delta_refusal f_code code residual = or_else (f_code_refusal f_code) (code_refusal (scale f_code) code residual)

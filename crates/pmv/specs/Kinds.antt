@@ -25,65 +25,65 @@ use Rattle.pmv.specs.declared.kinds.OptionFieldParity.{OptionFieldParity}
 use Rattle.pmv.specs.declared.kinds.OptionFlag.{OptionFlag}
 
 -- t of Table 7-7
-abbrev pub componentNumber : Component → ℕ
-componentNumber Component.Horizontal = 0
-componentNumber Component.Vertical = 1
+abbrev pub component_number : Component → ℕ
+component_number Component.Horizontal = 0
+component_number Component.Vertical = 1
 
 -- s of Table 7-7
-abbrev pub directionNumber : Direction → ℕ
-directionNumber Direction.Forward = 0
-directionNumber Direction.Backward = 1
+abbrev pub direction_number : Direction → ℕ
+direction_number Direction.Forward = 0
+direction_number Direction.Backward = 1
 
-abbrev pub directionFrom : ℕ → OptionDirection
-directionFrom n =
+abbrev pub direction_from : ℕ → OptionDirection
+direction_from n =
     cond (eqb n 0) (OptionDirection.Some Direction.Forward)
     (cond (eqb n 1) (OptionDirection.Some Direction.Backward)
     OptionDirection.None)
 
 -- r of Table 7-7
-abbrev pub indexNumber : VectorIndex → ℕ
-indexNumber VectorIndex.First = 0
-indexNumber VectorIndex.Second = 1
+abbrev pub index_number : VectorIndex → ℕ
+index_number VectorIndex.First = 0
+index_number VectorIndex.Second = 1
 
-abbrev pub indexFrom : ℕ → OptionVectorIndex
-indexFrom n =
+abbrev pub index_from : ℕ → OptionVectorIndex
+index_from n =
     cond (eqb n 0) (OptionVectorIndex.Some VectorIndex.First)
     (cond (eqb n 1) (OptionVectorIndex.Some VectorIndex.Second)
     OptionVectorIndex.None)
 
 -- mv_format
-abbrev pub formatNumber : MvFormat → ℕ
-formatNumber MvFormat.Field = 0
-formatNumber MvFormat.Frame = 1
+abbrev pub format_number : MvFormat → ℕ
+format_number MvFormat.Field = 0
+format_number MvFormat.Frame = 1
 
-abbrev pub formatFrom : ℕ → OptionMvFormat
-formatFrom n =
+abbrev pub format_from : ℕ → OptionMvFormat
+format_from n =
     cond (eqb n 0) (OptionMvFormat.Some MvFormat.Field)
     (cond (eqb n 1) (OptionMvFormat.Some MvFormat.Frame)
     OptionMvFormat.None)
 
 -- picture_structure: these are not the stream's codes
-abbrev pub structureNumber : PictureStructure → ℕ
-structureNumber PictureStructure.TopField = 0
-structureNumber PictureStructure.BottomField = 1
-structureNumber PictureStructure.Frame = 2
+abbrev pub structure_number : PictureStructure → ℕ
+structure_number PictureStructure.TopField = 0
+structure_number PictureStructure.BottomField = 1
+structure_number PictureStructure.Frame = 2
 
-abbrev pub structureFrom : ℕ → OptionPictureStructure
-structureFrom n =
+abbrev pub structure_from : ℕ → OptionPictureStructure
+structure_from n =
     cond (eqb n 0) (OptionPictureStructure.Some PictureStructure.TopField)
     (cond (eqb n 1) (OptionPictureStructure.Some PictureStructure.BottomField)
     (cond (eqb n 2) (OptionPictureStructure.Some PictureStructure.Frame)
     OptionPictureStructure.None))
 
 -- frame_motion_type or field_motion_type: these are not the stream's codes
-abbrev pub typeNumber : PredictionType → ℕ
-typeNumber PredictionType.FieldBased = 0
-typeNumber PredictionType.FrameBased = 1
-typeNumber PredictionType.SixteenByEight = 2
-typeNumber PredictionType.DualPrime = 3
+abbrev pub type_number : PredictionType → ℕ
+type_number PredictionType.FieldBased = 0
+type_number PredictionType.FrameBased = 1
+type_number PredictionType.SixteenByEight = 2
+type_number PredictionType.DualPrime = 3
 
-abbrev pub typeFrom : ℕ → OptionPredictionType
-typeFrom n =
+abbrev pub type_from : ℕ → OptionPredictionType
+type_from n =
     cond (eqb n 0) (OptionPredictionType.Some PredictionType.FieldBased)
     (cond (eqb n 1) (OptionPredictionType.Some PredictionType.FrameBased)
     (cond (eqb n 2) (OptionPredictionType.Some PredictionType.SixteenByEight)
@@ -91,124 +91,124 @@ typeFrom n =
     OptionPredictionType.None)))
 
 -- picture_coding_type: these are not the stream's codes
-abbrev pub codingNumber : PictureCodingType → ℕ
-codingNumber PictureCodingType.Intra = 0
-codingNumber PictureCodingType.Predictive = 1
-codingNumber PictureCodingType.Bidirectional = 2
-codingNumber PictureCodingType.DcIntra = 3
+abbrev pub coding_number : PictureCodingType → ℕ
+coding_number PictureCodingType.Intra = 0
+coding_number PictureCodingType.Predictive = 1
+coding_number PictureCodingType.Bidirectional = 2
+coding_number PictureCodingType.DcIntra = 3
 
 -- chroma_format: these are not the stream's codes
-abbrev pub chromaNumber : ChromaFormat → ℕ
-chromaNumber ChromaFormat.Yuv420 = 0
-chromaNumber ChromaFormat.Yuv422 = 1
-chromaNumber ChromaFormat.Yuv444 = 2
+abbrev pub chroma_number : ChromaFormat → ℕ
+chroma_number ChromaFormat.Yuv420 = 0
+chroma_number ChromaFormat.Yuv422 = 1
+chroma_number ChromaFormat.Yuv444 = 2
 
-abbrev pub chromaFrom : ℕ → OptionChromaFormat
-chromaFrom n =
+abbrev pub chroma_from : ℕ → OptionChromaFormat
+chroma_from n =
     cond (eqb n 0) (OptionChromaFormat.Some ChromaFormat.Yuv420)
     (cond (eqb n 1) (OptionChromaFormat.Some ChromaFormat.Yuv422)
     (cond (eqb n 2) (OptionChromaFormat.Some ChromaFormat.Yuv444)
     OptionChromaFormat.None))
 
 -- the parity of a field
-abbrev pub parityFrom : ℕ → OptionFieldParity
-parityFrom n =
+abbrev pub parity_from : ℕ → OptionFieldParity
+parity_from n =
     cond (eqb n 0) (OptionFieldParity.Some Top)
     (cond (eqb n 1) (OptionFieldParity.Some Bottom)
     OptionFieldParity.None)
 
 -- yes or no
-abbrev pub flagFrom : ℕ → OptionFlag
-flagFrom n =
+abbrev pub flag_from : ℕ → OptionFlag
+flag_from n =
     cond (eqb n 0) (OptionFlag.Some false)
     (cond (eqb n 1) (OptionFlag.Some true)
     OptionFlag.None)
 
 -- ---- numbers that are read: whether one has a meaning, and what it means. One without a meaning is refused before that matters.
 
-abbrev pub indexKnown : OptionVectorIndex → Bool
-indexKnown OptionVectorIndex.None = false
-indexKnown (OptionVectorIndex.Some k) = true
+abbrev pub index_known : OptionVectorIndex → Bool
+index_known OptionVectorIndex.None = false
+index_known (OptionVectorIndex.Some k) = true
 
-abbrev pub indexOr : OptionVectorIndex → VectorIndex
-indexOr OptionVectorIndex.None = VectorIndex.First
-indexOr (OptionVectorIndex.Some k) = k
+abbrev pub index_or : OptionVectorIndex → VectorIndex
+index_or OptionVectorIndex.None = VectorIndex.First
+index_or (OptionVectorIndex.Some k) = k
 
-abbrev pub directionKnown : OptionDirection → Bool
-directionKnown OptionDirection.None = false
-directionKnown (OptionDirection.Some k) = true
+abbrev pub direction_known : OptionDirection → Bool
+direction_known OptionDirection.None = false
+direction_known (OptionDirection.Some k) = true
 
-abbrev pub directionOr : OptionDirection → Direction
-directionOr OptionDirection.None = Direction.Forward
-directionOr (OptionDirection.Some k) = k
+abbrev pub direction_or : OptionDirection → Direction
+direction_or OptionDirection.None = Direction.Forward
+direction_or (OptionDirection.Some k) = k
 
-abbrev pub formatKnown : OptionMvFormat → Bool
-formatKnown OptionMvFormat.None = false
-formatKnown (OptionMvFormat.Some k) = true
+abbrev pub format_known : OptionMvFormat → Bool
+format_known OptionMvFormat.None = false
+format_known (OptionMvFormat.Some k) = true
 
-abbrev pub formatOr : OptionMvFormat → MvFormat
-formatOr OptionMvFormat.None = MvFormat.Field
-formatOr (OptionMvFormat.Some k) = k
+abbrev pub format_or : OptionMvFormat → MvFormat
+format_or OptionMvFormat.None = MvFormat.Field
+format_or (OptionMvFormat.Some k) = k
 
-abbrev pub structureKnown : OptionPictureStructure → Bool
-structureKnown OptionPictureStructure.None = false
-structureKnown (OptionPictureStructure.Some k) = true
+abbrev pub structure_known : OptionPictureStructure → Bool
+structure_known OptionPictureStructure.None = false
+structure_known (OptionPictureStructure.Some k) = true
 
-abbrev pub structureOr : OptionPictureStructure → PictureStructure
-structureOr OptionPictureStructure.None = PictureStructure.TopField
-structureOr (OptionPictureStructure.Some k) = k
+abbrev pub structure_or : OptionPictureStructure → PictureStructure
+structure_or OptionPictureStructure.None = PictureStructure.TopField
+structure_or (OptionPictureStructure.Some k) = k
 
-abbrev pub typeKnown : OptionPredictionType → Bool
-typeKnown OptionPredictionType.None = false
-typeKnown (OptionPredictionType.Some k) = true
+abbrev pub type_known : OptionPredictionType → Bool
+type_known OptionPredictionType.None = false
+type_known (OptionPredictionType.Some k) = true
 
-abbrev pub typeOr : OptionPredictionType → PredictionType
-typeOr OptionPredictionType.None = PredictionType.FieldBased
-typeOr (OptionPredictionType.Some k) = k
+abbrev pub type_or : OptionPredictionType → PredictionType
+type_or OptionPredictionType.None = PredictionType.FieldBased
+type_or (OptionPredictionType.Some k) = k
 
-abbrev pub chromaKnown : OptionChromaFormat → Bool
-chromaKnown OptionChromaFormat.None = false
-chromaKnown (OptionChromaFormat.Some k) = true
+abbrev pub chroma_known : OptionChromaFormat → Bool
+chroma_known OptionChromaFormat.None = false
+chroma_known (OptionChromaFormat.Some k) = true
 
-abbrev pub chromaOr : OptionChromaFormat → ChromaFormat
-chromaOr OptionChromaFormat.None = ChromaFormat.Yuv420
-chromaOr (OptionChromaFormat.Some k) = k
+abbrev pub chroma_or : OptionChromaFormat → ChromaFormat
+chroma_or OptionChromaFormat.None = ChromaFormat.Yuv420
+chroma_or (OptionChromaFormat.Some k) = k
 
-abbrev pub parityKnown : OptionFieldParity → Bool
-parityKnown OptionFieldParity.None = false
-parityKnown (OptionFieldParity.Some k) = true
+abbrev pub parity_known : OptionFieldParity → Bool
+parity_known OptionFieldParity.None = false
+parity_known (OptionFieldParity.Some k) = true
 
-abbrev pub parityOr : OptionFieldParity → FieldParity
-parityOr OptionFieldParity.None = Top
-parityOr (OptionFieldParity.Some k) = k
+abbrev pub parity_or : OptionFieldParity → FieldParity
+parity_or OptionFieldParity.None = Top
+parity_or (OptionFieldParity.Some k) = k
 
-abbrev pub flagKnown : OptionFlag → Bool
-flagKnown OptionFlag.None = false
-flagKnown (OptionFlag.Some k) = true
+abbrev pub flag_known : OptionFlag → Bool
+flag_known OptionFlag.None = false
+flag_known (OptionFlag.Some k) = true
 
-abbrev pub flagOr : OptionFlag → Bool
-flagOr OptionFlag.None = false
-flagOr (OptionFlag.Some k) = k
+abbrev pub flag_or : OptionFlag → Bool
+flag_or OptionFlag.None = false
+flag_or (OptionFlag.Some k) = k
 
 -- ---- tests
 
-abbrev pub isVertical : Component → Bool
-isVertical Component.Horizontal = false
-isVertical Component.Vertical = true
+abbrev pub is_vertical : Component → Bool
+is_vertical Component.Horizontal = false
+is_vertical Component.Vertical = true
 
-abbrev pub isFieldFormat : MvFormat → Bool
-isFieldFormat MvFormat.Field = true
-isFieldFormat MvFormat.Frame = false
+abbrev pub is_field_format : MvFormat → Bool
+is_field_format MvFormat.Field = true
+is_field_format MvFormat.Frame = false
 
 -- a frame picture, not a field picture
-abbrev pub isFramePicture : PictureStructure → Bool
-isFramePicture PictureStructure.TopField = false
-isFramePicture PictureStructure.BottomField = false
-isFramePicture PictureStructure.Frame = true
+abbrev pub is_frame_picture : PictureStructure → Bool
+is_frame_picture PictureStructure.TopField = false
+is_frame_picture PictureStructure.BottomField = false
+is_frame_picture PictureStructure.Frame = true
 
 -- a P or B picture
-abbrev pub isInterPicture : PictureCodingType → Bool
-isInterPicture PictureCodingType.Intra = false
-isInterPicture PictureCodingType.Predictive = true
-isInterPicture PictureCodingType.Bidirectional = true
-isInterPicture PictureCodingType.DcIntra = false
+abbrev pub is_inter_picture : PictureCodingType → Bool
+is_inter_picture PictureCodingType.Intra = false
+is_inter_picture PictureCodingType.Predictive = true
+is_inter_picture PictureCodingType.Bidirectional = true
+is_inter_picture PictureCodingType.DcIntra = false

@@ -3,11 +3,11 @@
 -- The scope (docs/SCOPE.md): what has no row is refused, 7, then 8, 9, 10, then 11 or 12; an absent type is refused, where the tables'
 -- footnotes assume one; the outcomes have names, and numbers in the order of the Rust's enum.
 use Rattle.std.specs.Prelude.{Bool, true, false, not, ◌&&◌, ◌||◌, cond, ℕ, eqb}
-use Rattle.combine_predictions.specs.Refusals.{cause, unlessRefused}
-use Rattle.pmv.specs.Kinds.{isFramePicture, isInterPicture}
-use Rattle.pmv.specs.Refusals.{intraWithMotion, typeMissing, frameBasedInField, sixteenByEightInFrame, dualPrimeFlags, noneRowFlags}
-use Rattle.pmv.specs.Predictors.{zeroed, firstCopied}
-use Rattle.pmv.specs.Answers.{updateAnswer}
+use Rattle.combine_predictions.specs.Refusals.{cause, unless_refused}
+use Rattle.pmv.specs.Kinds.{is_frame_picture, is_inter_picture}
+use Rattle.pmv.specs.Refusals.{intra_with_motion, type_missing, frame_based_in_field, sixteen_by_eight_in_frame, dual_prime_flags, none_row_flags}
+use Rattle.pmv.specs.Predictors.{zeroed, first_copied}
+use Rattle.pmv.specs.Answers.{update_answer}
 use Rattle.pmv.specs.declared.kinds.Direction.TheVariants.{Forward, Backward}
 use Rattle.pmv.specs.declared.kinds.PredictionType.{PredictionType}
 use Rattle.pmv.specs.declared.kinds.PredictionType.TheVariants.{FieldBased, FrameBased, SixteenByEight, DualPrime}
@@ -28,7 +28,7 @@ pub data Rows : Type 0 where
   -- "(none)", in each flagged direction; there is no row without a flag
   unchanged : Rows
   -- first to second, forward; there is a row for forward alone
-  dual-prime : Rows
+  dual_prime : Rows
   -- no row; the refusal
   no_rows : ℕ → Rows
 
@@ -36,103 +36,103 @@ pub data Rows : Type 0 where
 abbrev pub rows_of : Bool → PredictionType → Rows
 rows_of true FrameBased = copying
 rows_of true FieldBased = unchanged
-rows_of true SixteenByEight = no_rows sixteenByEightInFrame
-rows_of true DualPrime = dual-prime
+rows_of true SixteenByEight = no_rows sixteen_by_eight_in_frame
+rows_of true DualPrime = dual_prime
 rows_of false FieldBased = copying
 rows_of false SixteenByEight = unchanged
-rows_of false FrameBased = no_rows frameBasedInField
-rows_of false DualPrime = dual-prime
+rows_of false FrameBased = no_rows frame_based_in_field
+rows_of false DualPrime = dual_prime
 
 -- the row with these flags, macroblock_motion_forward and macroblock_motion_backward, is not there
-abbrev pub rowRefusal : Rows → Bool → Bool → ℕ
-rowRefusal copying f b = 0
-rowRefusal unchanged f b = cause (not (f || b)) noneRowFlags
-rowRefusal dual-prime f b = cause (not (f && not b)) dualPrimeFlags
-rowRefusal (no_rows n) f b = n
+abbrev pub row_refusal : Rows → Bool → Bool → ℕ
+row_refusal copying f b = 0
+row_refusal unchanged f b = cause (not (f || b)) none_row_flags
+row_refusal dual_prime f b = cause (not (f && not b)) dual_prime_flags
+row_refusal (no_rows n) f b = n
 
-abbrev pub copyOutcome : Bool → Bool → PmvUpdateOutcome
-copyOutcome true true = NonIntraCopyBoth
-copyOutcome true false = NonIntraCopyForward
-copyOutcome false true = NonIntraCopyBackward
-copyOutcome false false = NonIntraZeroMotionReset
+abbrev pub copy_outcome : Bool → Bool → PmvUpdateOutcome
+copy_outcome true true = NonIntraCopyBoth
+copy_outcome true false = NonIntraCopyForward
+copy_outcome false true = NonIntraCopyBackward
+copy_outcome false false = NonIntraZeroMotionReset
 
 -- what the row says; where there is none, the refusal is what counts
-abbrev pub rowOutcome : Rows → Bool → Bool → PmvUpdateOutcome
-rowOutcome copying f b = copyOutcome f b
-rowOutcome unchanged f b = NoUpdate
-rowOutcome dual-prime f b = DualPrimeCopyForward
-rowOutcome (no_rows n) f b = NoUpdate
+abbrev pub row_outcome : Rows → Bool → Bool → PmvUpdateOutcome
+row_outcome copying f b = copy_outcome f b
+row_outcome unchanged f b = NoUpdate
+row_outcome dual_prime f b = DualPrimeCopyForward
+row_outcome (no_rows n) f b = NoUpdate
 
 -- the intra row: with concealment_motion_vectors, forward first to second, and all zero without
-abbrev pub intraOutcome : Bool → PmvUpdateOutcome
-intraOutcome true = IntraConcealmentCopyForwardFirst
-intraOutcome false = IntraResetAll
+abbrev pub intra_outcome : Bool → PmvUpdateOutcome
+intra_outcome true = IntraConcealmentCopyForwardFirst
+intra_outcome false = IntraResetAll
 
 -- a macroblock that is not intra: 8; 9 or 10; 11 or 12. The tables' footnote assumes frame-based or field-based motion where the type is
 -- absent; that it is refused is the scope's
-abbrev pub interRefusal : Bool → MotionType → Bool → Bool → ℕ
-interRefusal frame Absent f b = typeMissing
-interRefusal frame (Present t) f b = rowRefusal (rows_of frame t) f b
+abbrev pub inter_refusal : Bool → MotionType → Bool → Bool → ℕ
+inter_refusal frame Absent f b = type_missing
+inter_refusal frame (Present t) f b = row_refusal (rows_of frame t) f b
 
-abbrev pub interOutcome : Bool → MotionType → Bool → Bool → PmvUpdateOutcome
-interOutcome frame Absent f b = NoUpdate
-interOutcome frame (Present t) f b = rowOutcome (rows_of frame t) f b
+abbrev pub inter_outcome : Bool → MotionType → Bool → Bool → PmvUpdateOutcome
+inter_outcome frame Absent f b = NoUpdate
+inter_outcome frame (Present t) f b = row_outcome (rows_of frame t) f b
 
 -- frame picture, type, forward, backward, intra: 7, then the others
-unfoldable pub decidedRefusal : Bool → MotionType → Bool → Bool → Bool → ℕ
-decidedRefusal frame type f b true = cause (f || b) intraWithMotion
-decidedRefusal frame type f b false = interRefusal frame type f b
+unfoldable pub decided_refusal : Bool → MotionType → Bool → Bool → Bool → ℕ
+decided_refusal frame type f b true = cause (f || b) intra_with_motion
+decided_refusal frame type f b false = inter_refusal frame type f b
 
 -- and concealment
-unfoldable pub decidedOutcome : Bool → MotionType → Bool → Bool → Bool → Bool → PmvUpdateOutcome
-decidedOutcome frame type f b true c = intraOutcome c
-decidedOutcome frame type f b false c = interOutcome frame type f b
+unfoldable pub decided_outcome : Bool → MotionType → Bool → Bool → Bool → Bool → PmvUpdateOutcome
+decided_outcome frame type f b true c = intra_outcome c
+decided_outcome frame type f b false c = inter_outcome frame type f b
 
-abbrev pub updateRefusal : PmvUpdateContext → ℕ
-updateRefusal x =
-    decidedRefusal (isFramePicture x.picture_structure) x.prediction_type x.macroblock_motion_forward
+abbrev pub update_refusal : PmvUpdateContext → ℕ
+update_refusal x =
+    decided_refusal (is_frame_picture x.picture_structure) x.prediction_type x.macroblock_motion_forward
     x.macroblock_motion_backward x.macroblock_intra
 
-abbrev pub updateOutcome : PmvUpdateContext → PmvUpdateOutcome
-updateOutcome x =
-    decidedOutcome (isFramePicture x.picture_structure) x.prediction_type x.macroblock_motion_forward
+abbrev pub update_outcome : PmvUpdateContext → PmvUpdateOutcome
+update_outcome x =
+    decided_outcome (is_frame_picture x.picture_structure) x.prediction_type x.macroblock_motion_forward
     x.macroblock_motion_backward x.macroblock_intra x.concealment_motion_vectors
 
 -- the outcome's number, counted from 0 in the order of the Rust's enum
-abbrev pub outcomeNumber : PmvUpdateOutcome → ℕ
-outcomeNumber IntraConcealmentCopyForwardFirst = 0
-outcomeNumber IntraResetAll = 1
-outcomeNumber NonIntraCopyBoth = 2
-outcomeNumber NonIntraCopyForward = 3
-outcomeNumber NonIntraCopyBackward = 4
-outcomeNumber NonIntraZeroMotionReset = 5
-outcomeNumber NoUpdate = 6
-outcomeNumber DualPrimeCopyForward = 7
+abbrev pub outcome_number : PmvUpdateOutcome → ℕ
+outcome_number IntraConcealmentCopyForwardFirst = 0
+outcome_number IntraResetAll = 1
+outcome_number NonIntraCopyBoth = 2
+outcome_number NonIntraCopyForward = 3
+outcome_number NonIntraCopyBackward = 4
+outcome_number NonIntraZeroMotionReset = 5
+outcome_number NoUpdate = 6
+outcome_number DualPrimeCopyForward = 7
 
 -- what each outcome does to the predictors
 abbrev pub after : PmvUpdateOutcome → Pmv → Pmv
-after IntraConcealmentCopyForwardFirst pmv = firstCopied Forward pmv
+after IntraConcealmentCopyForwardFirst pmv = first_copied Forward pmv
 after IntraResetAll pmv = zeroed
-after NonIntraCopyBoth pmv = firstCopied Backward (firstCopied Forward pmv)
-after NonIntraCopyForward pmv = firstCopied Forward pmv
-after NonIntraCopyBackward pmv = firstCopied Backward pmv
+after NonIntraCopyBoth pmv = first_copied Backward (first_copied Forward pmv)
+after NonIntraCopyForward pmv = first_copied Forward pmv
+after NonIntraCopyBackward pmv = first_copied Backward pmv
 after NonIntraZeroMotionReset pmv = zeroed
 after NoUpdate pmv = pmv
-after DualPrimeCopyForward pmv = firstCopied Forward pmv
+after DualPrimeCopyForward pmv = first_copied Forward pmv
 
 unfoldable pub updated : Pmv → PmvUpdateContext → PredictorUpdate
 updated pmv x =
     record {
-      answer = updateAnswer (updateRefusal x) (updateOutcome x);
-      pmv = unlessRefused (updateRefusal x) (after (updateOutcome x) pmv) pmv;
+      answer = update_answer (update_refusal x) (update_outcome x);
+      pmv = unless_refused (update_refusal x) (after (update_outcome x) pmv) pmv;
     }
 
 -- ---- 7.7.5.1
 
 -- spatial_temporal_weight_class == 4 in a P or B picture
-abbrev pub resetsPredictors : PictureCodingType → ℕ → Bool
-resetsPredictors type class = eqb class 4 && isInterPicture type
+abbrev pub resets_predictors : PictureCodingType → ℕ → Bool
+resets_predictors type class = eqb class 4 && is_inter_picture type
 
-unfoldable pub spatialTemporalReset : Pmv → PictureCodingType → ℕ → SpatialTemporalReset
-spatialTemporalReset pmv type class =
-    record { applied = resetsPredictors type class; pmv = cond (resetsPredictors type class) zeroed pmv }
+unfoldable pub spatial_temporal_reset : Pmv → PictureCodingType → ℕ → SpatialTemporalReset
+spatial_temporal_reset pmv type class =
+    record { applied = resets_predictors type class; pmv = cond (resets_predictors type class) zeroed pmv }

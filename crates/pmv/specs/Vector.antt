@@ -3,10 +3,10 @@
 -- The scope (docs/SCOPE.md): the horizontal component is first, and stays stored where the vertical one is refused; `decode_motion_vector`
 -- never halves.
 use Rattle.std.specs.Prelude.{Bool, ℕ, ℤ}
-use Rattle.combine_predictions.specs.Refusals.{or_else, unlessRefused}
-use Rattle.pmv.specs.Component.{halves, componentOf, componentRefusal}
-use Rattle.pmv.specs.Predictors.{predictor, stored, pair_of, pairStored}
-use Rattle.pmv.specs.Answers.{reconstructedAnswer, vectorAnswer}
+use Rattle.combine_predictions.specs.Refusals.{or_else, unless_refused}
+use Rattle.pmv.specs.Component.{halves, component_of, component_refusal}
+use Rattle.pmv.specs.Predictors.{predictor, stored, pair_of, pair_stored}
+use Rattle.pmv.specs.Answers.{reconstructed_answer, vector_answer}
 use Rattle.pmv.specs.declared.kinds.VectorIndex.{VectorIndex}
 use Rattle.pmv.specs.declared.kinds.Direction.{Direction}
 use Rattle.pmv.specs.declared.kinds.Component.{Component}
@@ -29,60 +29,60 @@ Reading = ℕ → ℤ → MotionResidual → ℤ → Bool → ℕ
 
 -- the scope's
 abbrev pub ported : Reading
-ported = componentRefusal
+ported = component_refusal
 
 -- ---- one component: PMV[r][s][t] is read and, unless the component is refused, stored
-module _ (pmv : Pmv) (r : VectorIndex) (s : Direction) (t : Component) (fCode : ℕ) (code : ℤ) (residual : MotionResidual) (halved : Bool) where
+module _ (pmv : Pmv) (r : VectorIndex) (s : Direction) (t : Component) (f_code : ℕ) (code : ℤ) (residual : MotionResidual) (halved : Bool) where
   abbrev pub part : ReconstructedComponent
-  part = componentOf fCode code residual (predictor pmv r s t) halved
+  part = component_of f_code code residual (predictor pmv r s t) halved
 
-  abbrev pub partRefusal : Reading → ℕ
-  partRefusal reading = reading fCode code residual (predictor pmv r s t) halved
+  abbrev pub part_refusal : Reading → ℕ
+  part_refusal reading = reading f_code code residual (predictor pmv r s t) halved
 
   unfoldable pub decoded : Reading → DecodedComponent
   decoded reading =
       record {
-        answer = reconstructedAnswer (partRefusal reading) part;
-        pmv = unlessRefused (partRefusal reading) (stored pmv r s t part.new_pmv) pmv;
+        answer = reconstructed_answer (part_refusal reading) part;
+        pmv = unless_refused (part_refusal reading) (stored pmv r s t part.new_pmv) pmv;
       }
 
 -- ---- a vector against its two predictors: the horizontal component first, then the vertical one
 module _ (prior : PredictorPair) (mv : MotionVector) (fh fv : ℕ) (format : MvFormat) (picture : PictureStructure) where
-  abbrev pub horizontalRefusal : Reading → ℕ
-  horizontalRefusal reading =
+  abbrev pub horizontal_refusal : Reading → ℕ
+  horizontal_refusal reading =
       reading fh mv.motion_code_horiz mv.motion_residual_horiz prior.horizontal (halves format picture Horizontal)
 
-  abbrev pub verticalRefusal : Reading → ℕ
-  verticalRefusal reading =
+  abbrev pub vertical_refusal : Reading → ℕ
+  vertical_refusal reading =
       reading fv mv.motion_code_vert mv.motion_residual_vert prior.vertical (halves format picture Vertical)
 
   -- the horizontal component's, then the vertical one's
-  abbrev pub vectorRefusal : Reading → ℕ
-  vectorRefusal reading = or_else (horizontalRefusal reading) (verticalRefusal reading)
+  abbrev pub vector_refusal : Reading → ℕ
+  vector_refusal reading = or_else (horizontal_refusal reading) (vertical_refusal reading)
 
   abbrev pub components : VectorComponents
   components =
       record {
-        horizontal = componentOf fh mv.motion_code_horiz mv.motion_residual_horiz prior.horizontal (halves format picture Horizontal);
-        vertical = componentOf fv mv.motion_code_vert mv.motion_residual_vert prior.vertical (halves format picture Vertical);
+        horizontal = component_of fh mv.motion_code_horiz mv.motion_residual_horiz prior.horizontal (halves format picture Horizontal);
+        vertical = component_of fv mv.motion_code_vert mv.motion_residual_vert prior.vertical (halves format picture Vertical);
       }
 
   -- where the vertical component is refused, the new horizontal predictor remains
-  abbrev pub pairAfter : Reading → PredictorPair
-  pairAfter reading =
+  abbrev pub pair_after : Reading → PredictorPair
+  pair_after reading =
       record {
-        horizontal = unlessRefused (horizontalRefusal reading) components.horizontal.new_pmv prior.horizontal;
-        vertical = unlessRefused (vectorRefusal reading) components.vertical.new_pmv prior.vertical;
+        horizontal = unless_refused (horizontal_refusal reading) components.horizontal.new_pmv prior.horizontal;
+        vertical = unless_refused (vector_refusal reading) components.vertical.new_pmv prior.vertical;
       }
 
-  unfoldable pub reconstructedPair : Reading → DecodedPair
-  reconstructedPair reading = record { answer = vectorAnswer (vectorRefusal reading) components; predictors = pairAfter reading }
+  unfoldable pub reconstructed_pair : Reading → DecodedPair
+  reconstructed_pair reading = record { answer = vector_answer (vector_refusal reading) components; predictors = pair_after reading }
 
 -- ---- a vector against all predictors: PMV[r][s][1:0] is read, and stored
 module _ (pmv : Pmv) (mv : MotionVector) (r : VectorIndex) (s : Direction) (fh fv : ℕ) (format : MvFormat) (picture : PictureStructure) where
   unfoldable pub reconstructed : Reading → DecodedVector
   reconstructed reading =
       record {
-        answer = (reconstructedPair (pair_of pmv r s) mv fh fv format picture reading).answer;
-        pmv = pairStored pmv r s (reconstructedPair (pair_of pmv r s) mv fh fv format picture reading).predictors;
+        answer = (reconstructed_pair (pair_of pmv r s) mv fh fv format picture reading).answer;
+        pmv = pair_stored pmv r s (reconstructed_pair (pair_of pmv r s) mv fh fv format picture reading).predictors;
       }

@@ -1,6 +1,6 @@
 //! ISO/IEC 13818-2, 7.6.3.7: the chrominance's vector.
 ghost use Rattle.std.specs.Prelude.{◌≡◌};
-ghost use Rattle.pmv.specs.Chroma.{truncHalf, scaled};
+ghost use Rattle.pmv.specs.Chroma.{trunc_half, scaled};
 
 use crate::kinds::ChromaFormat;
 
@@ -15,7 +15,7 @@ pub struct ScaledMotionVector {
 
 /// Half, truncated towards zero: a division, since a shift would floor.
 fn half(v: i32) -> i32
-    ensures { result ≡ truncHalf v }
+    ensures { result ≡ trunc_half v }
 {
     v / 2
 }

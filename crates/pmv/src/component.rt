@@ -1,10 +1,10 @@
 //! ISO/IEC 13818-2, 7.6.3.1: one component of a motion vector, in half samples.
 ghost use Rattle.std.specs.Prelude.{◌≡◌, false, ◌+◌, ◌≤◌, nat_abs, ◌+ℤ◌, ◌-ℤ◌};
 ghost use Rattle.laws.proofs.Bounded.{Within};
-ghost use Rattle.forming_predictions.specs.SampleAnswers.{valueUnless};
-ghost use Rattle.pmv.specs.Delta.{scale, is_plain, with_sign, delta, fCodeFits, codeFits, residualRefusal, fCodeRefusal, deltaRefusal};
-ghost use Rattle.pmv.specs.Component.{range_of, in_range, halves, prediction, raised, lowered, vectorOf, newPredictor, fromDelta, fromDeltaRefusal, deltaOf, componentOf, componentRefusal};
-ghost use Rattle.pmv.specs.Answers.{deltaAnswer, deltaNumber, deltaValue, rangeAnswer, rangeNumber, rangeValue, reconstructedAnswer, reconstructedNumber, reconstructedValue};
+ghost use Rattle.forming_predictions.specs.SampleAnswers.{value_unless};
+ghost use Rattle.pmv.specs.Delta.{scale, is_plain, with_sign, delta, f_code_fits, code_fits, residual_refusal, f_code_refusal, delta_refusal};
+ghost use Rattle.pmv.specs.Component.{range_of, in_range, halves, prediction, raised, lowered, vector_of, new_predictor, from_delta, from_delta_refusal, delta_of, component_of, component_refusal};
+ghost use Rattle.pmv.specs.Answers.{delta_answer, delta_number, delta_value, range_answer, range_number, range_value, reconstructed_answer, reconstructed_number, reconstructed_value};
 ghost use Rattle.pmv.specs.inner.Bounds.{Small};
 
 use crate::kinds::{Component, MvFormat, PictureStructure};
@@ -71,20 +71,20 @@ pub enum Reconstructed {
 
 /// f, which is 2 to the power f_code - 1.
 fn scale_of(f_code: u8) -> u32
-    requires { fCodeRefusal f_code ≡ 0 }
+    requires { f_code_refusal f_code ≡ 0 }
     ensures { (result ≡ scale f_code) × (1 ≤ result) × (result ≤ 256) }
 {
     1 << (f_code - 1)
 }
 
 fn f_code_fits(f_code: u8) -> bool
-    ensures { result ≡ fCodeFits f_code }
+    ensures { result ≡ f_code_fits f_code }
 {
     (1 <= f_code) & (f_code <= 9)
 }
 
 fn code_fits(motion_code: i32) -> bool
-    ensures { result ≡ codeFits motion_code }
+    ensures { result ≡ code_fits motion_code }
 {
     (-16 <= motion_code) & (motion_code <= 16)
 }
@@ -128,7 +128,7 @@ fn scaled_delta(motion_code: i32, residual: u32, f: u32) -> i32
 
 /// delta where there is no residual. f is asked for first: where it is 1, no jump depends on the code.
 fn delta_without(motion_code: i32, f: u32) -> ComputedDelta
-    ensures { result ≡ deltaAnswer (residualRefusal (is_plain f motion_code) MotionResidual.Absent) (delta f motion_code 0) }
+    ensures { result ≡ delta_answer (residual_refusal (is_plain f motion_code) MotionResidual.Absent) (delta f motion_code 0) }
 {
     if f == 1 {
         return ComputedDelta::Delta(motion_code);
@@ -142,7 +142,7 @@ fn delta_without(motion_code: i32, f: u32) -> ComputedDelta
 /// delta where there is one.
 fn delta_with(motion_code: i32, residual: u8, f: u32) -> ComputedDelta
     requires { Within 16 motion_code × (f ≤ 256) }
-    ensures { result ≡ deltaAnswer (residualRefusal (is_plain f motion_code) (MotionResidual.Present residual)) (delta f motion_code residual) }
+    ensures { result ≡ delta_answer (residual_refusal (is_plain f motion_code) (MotionResidual.Present residual)) (delta f motion_code residual) }
 {
     if is_plain(f, motion_code) {
         return ComputedDelta::Refused(RESIDUAL_FORBIDDEN);
@@ -152,9 +152,9 @@ fn delta_with(motion_code: i32, residual: u8, f: u32) -> ComputedDelta
 
 /// How far a component is from its prediction, in half samples.
 pub fn compute_delta(motion_code: i32, motion_residual: MotionResidual, f_code: u8) -> ComputedDelta
-    ensures answer { result ≡ deltaAnswer (deltaRefusal f_code motion_code motion_residual) (deltaOf f_code motion_code motion_residual) }
-    ensures number { deltaNumber result ≡ deltaRefusal f_code motion_code motion_residual }
-    ensures value { deltaValue result ≡ valueUnless (deltaNumber result) (deltaOf f_code motion_code motion_residual) }
+    ensures answer { result ≡ delta_answer (delta_refusal f_code motion_code motion_residual) (delta_of f_code motion_code motion_residual) }
+    ensures number { delta_number result ≡ delta_refusal f_code motion_code motion_residual }
+    ensures value { delta_value result ≡ value_unless (delta_number result) (delta_of f_code motion_code motion_residual) }
 {
     if !f_code_fits(f_code) {
         return ComputedDelta::Refused(F_CODE_OUTSIDE);
@@ -186,9 +186,9 @@ fn range_of(f: u32) -> VectorRange
 
 /// The range of vectors that an f_code gives.
 pub fn vector_range(f_code: u8) -> FoundRange
-    ensures answer { result ≡ rangeAnswer (fCodeRefusal f_code) (range_of (scale f_code)) }
-    ensures number { rangeNumber result ≡ fCodeRefusal f_code }
-    ensures value { rangeValue result ≡ valueUnless (rangeNumber result) (range_of (scale f_code)) }
+    ensures answer { result ≡ range_answer (f_code_refusal f_code) (range_of (scale f_code)) }
+    ensures number { range_number result ≡ f_code_refusal f_code }
+    ensures value { range_value result ≡ value_unless (range_number result) (range_of (scale f_code)) }
 {
     if !f_code_fits(f_code) {
         return FoundRange::Refused(F_CODE_OUTSIDE);
@@ -261,7 +261,7 @@ fn lower(b: VectorRange, v: i64) -> i64
 /// The vector before its last test.
 fn wrap(b: VectorRange, prior_pmv: i32, halved: bool, offset: i32) -> i64
     requires { Small b }
-    ensures { (result ≡ vectorOf b halved prior_pmv offset) × Within 4294983680 result }
+    ensures { (result ≡ vector_of b halved prior_pmv offset) × Within 4294983680 result }
 {
     lower(b, raise(b, summed(predicted(prior_pmv, halved), offset)))
 }
@@ -269,7 +269,7 @@ fn wrap(b: VectorRange, prior_pmv: i32, halved: bool, offset: i32) -> i64
 /// The predictor to be stored counts frame lines again.
 fn next_predictor(vector: i32, halved: bool) -> i32
     requires { Within 4096 vector }
-    ensures { result ≡ newPredictor halved vector }
+    ensures { result ≡ new_predictor halved vector }
 {
     if halved {
         return vector * 2;
@@ -280,7 +280,7 @@ fn next_predictor(vector: i32, halved: bool) -> i32
 /// A component from its delta.
 fn from_delta(b: VectorRange, halved: bool, prior_pmv: i32, offset: i32) -> Reconstructed
     requires { Small b }
-    ensures { result ≡ reconstructedAnswer (fromDeltaRefusal b halved prior_pmv offset) (fromDelta b halved prior_pmv offset) }
+    ensures { result ≡ reconstructed_answer (from_delta_refusal b halved prior_pmv offset) (from_delta b halved prior_pmv offset) }
 {
     if !in_range(b, offset as i64) {
         return Reconstructed::Refused(DELTA_OUTSIDE);
@@ -308,9 +308,9 @@ pub fn reconstruct_component(
     picture: PictureStructure,
     t: Component,
 ) -> Reconstructed
-    ensures answer { result ≡ reconstructedAnswer (componentRefusal f_code motion_code motion_residual prior_pmv (halves mv_format picture t)) (componentOf f_code motion_code motion_residual prior_pmv (halves mv_format picture t)) }
-    ensures number { reconstructedNumber result ≡ componentRefusal f_code motion_code motion_residual prior_pmv (halves mv_format picture t) }
-    ensures value { reconstructedValue result ≡ valueUnless (reconstructedNumber result) (componentOf f_code motion_code motion_residual prior_pmv (halves mv_format picture t)) }
+    ensures answer { result ≡ reconstructed_answer (component_refusal f_code motion_code motion_residual prior_pmv (halves mv_format picture t)) (component_of f_code motion_code motion_residual prior_pmv (halves mv_format picture t)) }
+    ensures number { reconstructed_number result ≡ component_refusal f_code motion_code motion_residual prior_pmv (halves mv_format picture t) }
+    ensures value { reconstructed_value result ≡ value_unless (reconstructed_number result) (component_of f_code motion_code motion_residual prior_pmv (halves mv_format picture t)) }
 {
     let halved = halves_prediction(mv_format, picture, t);
     match compute_delta(motion_code, motion_residual, f_code) {

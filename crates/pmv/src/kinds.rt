@@ -1,7 +1,7 @@
 //! The kinds of things that choose how a vector is reconstructed and what becomes of the predictors. docs/SCOPE.md counts each from 0 in
 //! the order of its values; these are not the codes of the stream.
 ghost use Rattle.std.specs.Prelude.{◌≡◌};
-ghost use Rattle.pmv.specs.Kinds.{componentNumber, directionNumber, directionFrom, indexNumber, indexFrom, formatNumber, formatFrom, structureNumber, structureFrom, typeNumber, typeFrom, codingNumber, chromaNumber, chromaFrom, parityFrom, flagFrom, indexKnown, indexOr, directionKnown, directionOr, formatKnown, formatOr, structureKnown, structureOr, typeKnown, typeOr, chromaKnown, chromaOr, parityKnown, parityOr, flagKnown, flagOr, isVertical, isFieldFormat, isFramePicture, isInterPicture};
+ghost use Rattle.pmv.specs.Kinds.{component_number, direction_number, direction_from, index_number, index_from, format_number, format_from, structure_number, structure_from, type_number, type_from, coding_number, chroma_number, chroma_from, parity_from, flag_from, index_known, index_or, direction_known, direction_or, format_known, format_or, structure_known, structure_or, type_known, type_or, chroma_known, chroma_or, parity_known, parity_or, flag_known, flag_or, is_vertical, is_field_format, is_frame_picture, is_inter_picture};
 
 use forming_predictions::FieldParity;
 
@@ -133,7 +133,7 @@ pub enum OptionFlag {
 impl Component {
     /// Its number, as an index.
     pub fn index(self) -> usize
-        ensures { result ≡ componentNumber self }
+        ensures { result ≡ component_number self }
     {
         match self {
             Component::Horizontal => 0,
@@ -145,7 +145,7 @@ impl Component {
 impl Direction {
     /// Its number, as an index.
     pub fn index(self) -> usize
-        ensures { result ≡ directionNumber self }
+        ensures { result ≡ direction_number self }
     {
         match self {
             Direction::Forward => 0,
@@ -155,7 +155,7 @@ impl Direction {
 
     /// The one with this number.
     pub fn from_number(number: u32) -> OptionDirection
-        ensures { result ≡ directionFrom number }
+        ensures { result ≡ direction_from number }
     {
         if number == 0 {
             return OptionDirection::Some(Direction::Forward);
@@ -170,7 +170,7 @@ impl Direction {
 impl VectorIndex {
     /// Its number, as an index.
     pub fn index(self) -> usize
-        ensures { result ≡ indexNumber self }
+        ensures { result ≡ index_number self }
     {
         match self {
             VectorIndex::First => 0,
@@ -180,7 +180,7 @@ impl VectorIndex {
 
     /// The one with this number.
     pub fn from_number(number: u32) -> OptionVectorIndex
-        ensures { result ≡ indexFrom number }
+        ensures { result ≡ index_from number }
     {
         if number == 0 {
             return OptionVectorIndex::Some(VectorIndex::First);
@@ -195,7 +195,7 @@ impl VectorIndex {
 impl MvFormat {
     /// Its number.
     pub fn number(self) -> u32
-        ensures { result ≡ formatNumber self }
+        ensures { result ≡ format_number self }
     {
         match self {
             MvFormat::Field => 0,
@@ -205,7 +205,7 @@ impl MvFormat {
 
     /// The one with this number.
     pub fn from_number(number: u32) -> OptionMvFormat
-        ensures { result ≡ formatFrom number }
+        ensures { result ≡ format_from number }
     {
         if number == 0 {
             return OptionMvFormat::Some(MvFormat::Field);
@@ -220,7 +220,7 @@ impl MvFormat {
 impl PictureStructure {
     /// Its number.
     pub fn number(self) -> u32
-        ensures { result ≡ structureNumber self }
+        ensures { result ≡ structure_number self }
     {
         match self {
             PictureStructure::TopField => 0,
@@ -231,7 +231,7 @@ impl PictureStructure {
 
     /// The one with this number.
     pub fn from_number(number: u32) -> OptionPictureStructure
-        ensures { result ≡ structureFrom number }
+        ensures { result ≡ structure_from number }
     {
         if number == 0 {
             return OptionPictureStructure::Some(PictureStructure::TopField);
@@ -249,7 +249,7 @@ impl PictureStructure {
 impl PredictionType {
     /// Its number.
     pub fn number(self) -> u32
-        ensures { result ≡ typeNumber self }
+        ensures { result ≡ type_number self }
     {
         match self {
             PredictionType::FieldBased => 0,
@@ -261,7 +261,7 @@ impl PredictionType {
 
     /// The one with this number.
     pub fn from_number(number: u32) -> OptionPredictionType
-        ensures { result ≡ typeFrom number }
+        ensures { result ≡ type_from number }
     {
         if number == 0 {
             return OptionPredictionType::Some(PredictionType::FieldBased);
@@ -282,7 +282,7 @@ impl PredictionType {
 impl PictureCodingType {
     /// Its number.
     pub fn number(self) -> u32
-        ensures { result ≡ codingNumber self }
+        ensures { result ≡ coding_number self }
     {
         match self {
             PictureCodingType::Intra => 0,
@@ -296,7 +296,7 @@ impl PictureCodingType {
 impl ChromaFormat {
     /// Its number.
     pub fn number(self) -> u32
-        ensures { result ≡ chromaNumber self }
+        ensures { result ≡ chroma_number self }
     {
         match self {
             ChromaFormat::Yuv420 => 0,
@@ -307,7 +307,7 @@ impl ChromaFormat {
 
     /// The one with this number.
     pub fn from_number(number: u32) -> OptionChromaFormat
-        ensures { result ≡ chromaFrom number }
+        ensures { result ≡ chroma_from number }
     {
         if number == 0 {
             return OptionChromaFormat::Some(ChromaFormat::Yuv420);
@@ -324,7 +324,7 @@ impl ChromaFormat {
 
 /// The parity with this number: the top field's is 0.
 pub fn parity_from_number(number: u32) -> OptionFieldParity
-    ensures { result ≡ parityFrom number }
+    ensures { result ≡ parity_from number }
 {
     if number == 0 {
         return OptionFieldParity::Some(FieldParity::Top);
@@ -337,7 +337,7 @@ pub fn parity_from_number(number: u32) -> OptionFieldParity
 
 /// No is 0, yes is 1.
 pub fn flag_from_number(number: u32) -> OptionFlag
-    ensures { result ≡ flagFrom number }
+    ensures { result ≡ flag_from number }
 {
     if number == 0 {
         return OptionFlag::Some(false);
@@ -351,7 +351,7 @@ pub fn flag_from_number(number: u32) -> OptionFlag
 impl OptionVectorIndex {
     /// Whether the number means one.
     pub fn is_some(self) -> bool
-        ensures { result ≡ indexKnown self }
+        ensures { result ≡ index_known self }
     {
         match self {
             OptionVectorIndex::None => false,
@@ -361,7 +361,7 @@ impl OptionVectorIndex {
 
     /// The one that it means, or else the first in order.
     pub fn or_first(self) -> VectorIndex
-        ensures { result ≡ indexOr self }
+        ensures { result ≡ index_or self }
     {
         match self {
             OptionVectorIndex::None => VectorIndex::First,
@@ -373,7 +373,7 @@ impl OptionVectorIndex {
 impl OptionDirection {
     /// Whether the number means one.
     pub fn is_some(self) -> bool
-        ensures { result ≡ directionKnown self }
+        ensures { result ≡ direction_known self }
     {
         match self {
             OptionDirection::None => false,
@@ -383,7 +383,7 @@ impl OptionDirection {
 
     /// The one that it means, or else the first in order.
     pub fn or_first(self) -> Direction
-        ensures { result ≡ directionOr self }
+        ensures { result ≡ direction_or self }
     {
         match self {
             OptionDirection::None => Direction::Forward,
@@ -395,7 +395,7 @@ impl OptionDirection {
 impl OptionMvFormat {
     /// Whether the number means one.
     pub fn is_some(self) -> bool
-        ensures { result ≡ formatKnown self }
+        ensures { result ≡ format_known self }
     {
         match self {
             OptionMvFormat::None => false,
@@ -405,7 +405,7 @@ impl OptionMvFormat {
 
     /// The one that it means, or else the first in order.
     pub fn or_first(self) -> MvFormat
-        ensures { result ≡ formatOr self }
+        ensures { result ≡ format_or self }
     {
         match self {
             OptionMvFormat::None => MvFormat::Field,
@@ -417,7 +417,7 @@ impl OptionMvFormat {
 impl OptionPictureStructure {
     /// Whether the number means one.
     pub fn is_some(self) -> bool
-        ensures { result ≡ structureKnown self }
+        ensures { result ≡ structure_known self }
     {
         match self {
             OptionPictureStructure::None => false,
@@ -427,7 +427,7 @@ impl OptionPictureStructure {
 
     /// The one that it means, or else the first in order.
     pub fn or_first(self) -> PictureStructure
-        ensures { result ≡ structureOr self }
+        ensures { result ≡ structure_or self }
     {
         match self {
             OptionPictureStructure::None => PictureStructure::TopField,
@@ -439,7 +439,7 @@ impl OptionPictureStructure {
 impl OptionPredictionType {
     /// Whether the number means one.
     pub fn is_some(self) -> bool
-        ensures { result ≡ typeKnown self }
+        ensures { result ≡ type_known self }
     {
         match self {
             OptionPredictionType::None => false,
@@ -449,7 +449,7 @@ impl OptionPredictionType {
 
     /// The one that it means, or else the first in order.
     pub fn or_first(self) -> PredictionType
-        ensures { result ≡ typeOr self }
+        ensures { result ≡ type_or self }
     {
         match self {
             OptionPredictionType::None => PredictionType::FieldBased,
@@ -461,7 +461,7 @@ impl OptionPredictionType {
 impl OptionChromaFormat {
     /// Whether the number means one.
     pub fn is_some(self) -> bool
-        ensures { result ≡ chromaKnown self }
+        ensures { result ≡ chroma_known self }
     {
         match self {
             OptionChromaFormat::None => false,
@@ -471,7 +471,7 @@ impl OptionChromaFormat {
 
     /// The one that it means, or else the first in order.
     pub fn or_first(self) -> ChromaFormat
-        ensures { result ≡ chromaOr self }
+        ensures { result ≡ chroma_or self }
     {
         match self {
             OptionChromaFormat::None => ChromaFormat::Yuv420,
@@ -483,7 +483,7 @@ impl OptionChromaFormat {
 impl OptionFieldParity {
     /// Whether the number means one.
     pub fn is_some(self) -> bool
-        ensures { result ≡ parityKnown self }
+        ensures { result ≡ parity_known self }
     {
         match self {
             OptionFieldParity::None => false,
@@ -493,7 +493,7 @@ impl OptionFieldParity {
 
     /// The one that it means, or else the first in order.
     pub fn or_first(self) -> FieldParity
-        ensures { result ≡ parityOr self }
+        ensures { result ≡ parity_or self }
     {
         match self {
             OptionFieldParity::None => FieldParity::Top,
@@ -505,7 +505,7 @@ impl OptionFieldParity {
 impl OptionFlag {
     /// Whether the number means one.
     pub fn is_some(self) -> bool
-        ensures { result ≡ flagKnown self }
+        ensures { result ≡ flag_known self }
     {
         match self {
             OptionFlag::None => false,
@@ -515,7 +515,7 @@ impl OptionFlag {
 
     /// The one that it means, or else no.
     pub fn or_first(self) -> bool
-        ensures { result ≡ flagOr self }
+        ensures { result ≡ flag_or self }
     {
         match self {
             OptionFlag::None => false,
@@ -526,7 +526,7 @@ impl OptionFlag {
 
 impl Component {
     pub fn is_vertical(self) -> bool
-        ensures { result ≡ isVertical self }
+        ensures { result ≡ is_vertical self }
     {
         match self {
             Component::Horizontal => false,
@@ -537,7 +537,7 @@ impl Component {
 
 impl MvFormat {
     pub fn is_field(self) -> bool
-        ensures { result ≡ isFieldFormat self }
+        ensures { result ≡ is_field_format self }
     {
         match self {
             MvFormat::Field => true,
@@ -548,7 +548,7 @@ impl MvFormat {
 
 impl PictureStructure {
     pub fn is_frame(self) -> bool
-        ensures { result ≡ isFramePicture self }
+        ensures { result ≡ is_frame_picture self }
     {
         match self {
             PictureStructure::TopField => false,
@@ -561,7 +561,7 @@ impl PictureStructure {
 impl PictureCodingType {
     /// Whether the picture is P or B.
     pub fn is_inter(self) -> bool
-        ensures { result ≡ isInterPicture self }
+        ensures { result ≡ is_inter_picture self }
     {
         match self {
             PictureCodingType::Intra => false,

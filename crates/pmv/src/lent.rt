@@ -1,11 +1,11 @@
 //! ISO/IEC 13818-2, 7.6.3.1, 7.6.3.3, 7.6.3.4 and 7.7.5.1 once more, on predictors that are lent: a loop over macroblocks holds the record,
 //! and each call updates it there. A call here copies the record out, makes the call by value, and stores what that gives.
 ghost use Rattle.std.specs.Prelude.{◌≡◌, false};
-ghost use Rattle.forming_predictions.specs.SampleAnswers.{valueUnless};
+ghost use Rattle.forming_predictions.specs.SampleAnswers.{value_unless};
 ghost use Rattle.pmv.specs.Predictors.{predictor, stored, pair_of, zeroed};
-ghost use Rattle.pmv.specs.Vector.{ported, partRefusal, part, decoded, vectorRefusal, components, reconstructed};
-ghost use Rattle.pmv.specs.Update.{updateRefusal, updateOutcome, updated, spatialTemporalReset};
-ghost use Rattle.pmv.specs.Answers.{reconstructedNumber, reconstructedValue, vectorNumber, vectorValue, updateNumber, updateValue};
+ghost use Rattle.pmv.specs.Vector.{ported, part_refusal, part, decoded, vector_refusal, components, reconstructed};
+ghost use Rattle.pmv.specs.Update.{update_refusal, update_outcome, updated, spatial_temporal_reset};
+ghost use Rattle.pmv.specs.Answers.{reconstructed_number, reconstructed_value, vector_number, vector_value, update_number, update_value};
 
 use crate::component::{MotionResidual, Reconstructed};
 use crate::kinds::{
@@ -54,8 +54,8 @@ pub fn decode_motion_vector(
 ) -> Reconstructed
     ensures answer { result ≡ (decoded pmv.old r s t f_code motion_code motion_residual false ported).answer }
     ensures predictors { pmv.new ≡ (decoded pmv.old r s t f_code motion_code motion_residual false ported).pmv }
-    ensures number { reconstructedNumber result ≡ partRefusal pmv.old r s t f_code motion_code motion_residual false ported }
-    ensures value { reconstructedValue result ≡ valueUnless (reconstructedNumber result) (part pmv.old r s t f_code motion_code motion_residual false) }
+    ensures number { reconstructed_number result ≡ part_refusal pmv.old r s t f_code motion_code motion_residual false ported }
+    ensures value { reconstructed_value result ≡ value_unless (reconstructed_number result) (part pmv.old r s t f_code motion_code motion_residual false) }
 {
     let d = decoded_motion_vector(*pmv, r, s, t, motion_code, motion_residual, f_code);
     *pmv = d.pmv;
@@ -75,8 +75,8 @@ pub fn reconstruct_motion_vector(
 ) -> ReconstructedVector
     ensures answer { result ≡ (reconstructed pmv.old mv r s f_code_horiz f_code_vert mv_format picture ported).answer }
     ensures predictors { pmv.new ≡ (reconstructed pmv.old mv r s f_code_horiz f_code_vert mv_format picture ported).pmv }
-    ensures number { vectorNumber result ≡ vectorRefusal (pair_of pmv.old r s) mv f_code_horiz f_code_vert mv_format picture ported }
-    ensures value { vectorValue result ≡ valueUnless (vectorNumber result) (components (pair_of pmv.old r s) mv f_code_horiz f_code_vert mv_format picture) }
+    ensures number { vector_number result ≡ vector_refusal (pair_of pmv.old r s) mv f_code_horiz f_code_vert mv_format picture ported }
+    ensures value { vector_value result ≡ value_unless (vector_number result) (components (pair_of pmv.old r s) mv f_code_horiz f_code_vert mv_format picture) }
 {
     let d = reconstructed_motion_vector(
         *pmv,
@@ -96,8 +96,8 @@ pub fn reconstruct_motion_vector(
 pub fn update_predictors(pmv: &mut Pmv, ctx: PmvUpdateContext) -> Updated
     ensures answer { result ≡ (updated pmv.old ctx).answer }
     ensures predictors { pmv.new ≡ (updated pmv.old ctx).pmv }
-    ensures number { updateNumber result ≡ updateRefusal ctx }
-    ensures value { updateValue result ≡ valueUnless (updateNumber result) (updateOutcome ctx) }
+    ensures number { update_number result ≡ update_refusal ctx }
+    ensures value { update_value result ≡ value_unless (update_number result) (update_outcome ctx) }
 {
     let u = updated_predictors(*pmv, ctx);
     *pmv = u.pmv;
@@ -110,8 +110,8 @@ pub fn apply_spatial_temporal_reset(
     picture_coding_type: PictureCodingType,
     spatial_temporal_weight_class: u8,
 ) -> bool
-    ensures answer { result ≡ (spatialTemporalReset pmv.old picture_coding_type spatial_temporal_weight_class).applied }
-    ensures predictors { pmv.new ≡ (spatialTemporalReset pmv.old picture_coding_type spatial_temporal_weight_class).pmv }
+    ensures answer { result ≡ (spatial_temporal_reset pmv.old picture_coding_type spatial_temporal_weight_class).applied }
+    ensures predictors { pmv.new ≡ (spatial_temporal_reset pmv.old picture_coding_type spatial_temporal_weight_class).pmv }
 {
     let r = spatial_temporal_reset_applied(
         *pmv,

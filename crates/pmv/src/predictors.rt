@@ -1,6 +1,6 @@
 //! ISO/IEC 13818-2, Table 7-7 and 7.6.3.4: the predictors PMV\[r\]\[s\]\[t\].
 ghost use Rattle.std.specs.Prelude.{◌≡◌, cond, ◌<◌, eqb};
-ghost use Rattle.pmv.specs.Predictors.{pmvIndex, predictor, stored, pair_of, pairStored, zeroed};
+ghost use Rattle.pmv.specs.Predictors.{pmv_index, predictor, stored, pair_of, pair_stored, zeroed};
 
 use crate::kinds::{Component, Direction, VectorIndex};
 
@@ -19,7 +19,7 @@ pub struct PredictorPair {
 
 /// Where PMV\[r\]\[s\]\[t\] is among the eight.
 pub fn place_of(r: VectorIndex, s: Direction, t: Component) -> usize
-    ensures { (result ≡ pmvIndex r s t) × (result < 8) }
+    ensures { (result ≡ pmv_index r s t) × (result < 8) }
 {
     r.index() * 4 + s.index() * 2 + t.index()
 }
@@ -90,7 +90,7 @@ impl Pmv {
 
     /// The predictors with `pair` at PMV\[r\]\[s\]\[1:0\].
     pub fn with_pair(self, r: VectorIndex, s: Direction, pair: PredictorPair) -> Self
-        ensures { result ≡ pairStored self r s pair }
+        ensures { result ≡ pair_stored self r s pair }
     {
         let p = self.with(r, s, Component::Horizontal, pair.horizontal);
         p.with(r, s, Component::Vertical, pair.vertical)

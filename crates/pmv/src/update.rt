@@ -1,10 +1,10 @@
 //! ISO/IEC 13818-2, 7.6.3.3: the predictors after a macroblock's vectors, by Tables 7-10 and 7-11; and the reset of 7.7.5.1.
 ghost use Rattle.std.specs.Prelude.{◌≡◌, cond, ◌≤◌};
-ghost use Rattle.pmv.specs.Kinds.{typeNumber};
-ghost use Rattle.pmv.specs.Update.{updateRefusal, updateOutcome, outcomeNumber, updated, spatialTemporalReset};
-ghost use Rattle.forming_predictions.specs.SampleAnswers.{valueUnless};
-ghost use Rattle.pmv.specs.Answers.{updateNumber, updateValue};
-ghost use Rattle.pmv.specs.inner.Rows.{flagNumber, tableRow, typeOrAny, isAbsent, decidedRow, outcomeOf, answer_of, carriedOut};
+ghost use Rattle.pmv.specs.Kinds.{type_number};
+ghost use Rattle.pmv.specs.Update.{update_refusal, update_outcome, outcome_number, updated, spatial_temporal_reset};
+ghost use Rattle.forming_predictions.specs.SampleAnswers.{value_unless};
+ghost use Rattle.pmv.specs.Answers.{update_number, update_value};
+ghost use Rattle.pmv.specs.inner.Rows.{flag_number, table_row, type_or_any, is_absent, decided_row, outcome_of, answer_of, carried_out};
 
 use crate::kinds::{MotionType, PictureCodingType, PictureStructure, PredictionType};
 use crate::predictors::Pmv;
@@ -185,7 +185,7 @@ const OUTCOMES: [u8; 64] = [
 impl PmvUpdateOutcome {
     /// Its number, counted from 0 in the order above.
     pub fn number(self) -> u8
-        ensures { result ≡ outcomeNumber self }
+        ensures { result ≡ outcome_number self }
     {
         match self {
             PmvUpdateOutcome::IntraConcealmentCopyForwardFirst => 0,
@@ -202,7 +202,7 @@ impl PmvUpdateOutcome {
 
 /// 1 or 0, to be counted with.
 fn bit(x: bool) -> usize
-    ensures { (result ≡ flagNumber x) × (result ≤ 1) }
+    ensures { (result ≡ flag_number x) × (result ≤ 1) }
 {
     if x {
         return 1;
@@ -211,7 +211,7 @@ fn bit(x: bool) -> usize
 }
 
 fn type_place(t: PredictionType) -> usize
-    ensures { (result ≡ typeNumber t) × (result ≤ 3) }
+    ensures { (result ≡ type_number t) × (result ≤ 3) }
 {
     match t {
         PredictionType::FieldBased => 0,
@@ -223,7 +223,7 @@ fn type_place(t: PredictionType) -> usize
 
 /// The type, any where there is none: the rows of an intra macroblock are those of every type.
 fn type_or_any(prediction_type: MotionType) -> PredictionType
-    ensures { result ≡ typeOrAny prediction_type }
+    ensures { result ≡ type_or_any prediction_type }
 {
     match prediction_type {
         MotionType::Absent => PredictionType::FieldBased,
@@ -232,7 +232,7 @@ fn type_or_any(prediction_type: MotionType) -> PredictionType
 }
 
 fn is_absent(prediction_type: MotionType) -> bool
-    ensures { result ≡ isAbsent prediction_type }
+    ensures { result ≡ is_absent prediction_type }
 {
     match prediction_type {
         MotionType::Absent => true,
@@ -242,7 +242,7 @@ fn is_absent(prediction_type: MotionType) -> bool
 
 /// The place of the table for these keys.
 fn row_at(frame: bool, t: PredictionType, forward: bool, backward: bool, intra: bool) -> u8
-    ensures { result ≡ tableRow frame t forward backward intra }
+    ensures { result ≡ table_row frame t forward backward intra }
 {
     let kind = bit(frame) * 32 + type_place(t) * 8;
     let flags = bit(forward) * 4 + bit(backward) * 2 + bit(intra);
@@ -260,9 +260,9 @@ fn row_unless(decided: bool, other: u8, row: u8) -> u8
 }
 
 /// Which row of the tables the context asks for.
-#[tactic(auto, unfolding(crate::specs::inner::Rows::rowFor))]
+#[tactic(auto, unfolding(crate::specs::inner::Rows::row_for))]
 fn decide(ctx: PmvUpdateContext) -> u8
-    ensures { result ≡ decidedRow ctx }
+    ensures { result ≡ decided_row ctx }
 {
     let picture = ctx.picture_structure;
     let prediction_type = ctx.prediction_type;
@@ -285,9 +285,9 @@ fn decide(ctx: PmvUpdateContext) -> u8
 }
 
 /// The outcome with this number, which is at most 7.
-#[tactic(auto, unfolding(crate::specs::inner::Rows::outcomeOf))]
+#[tactic(auto, unfolding(crate::specs::inner::Rows::outcome_of))]
 fn outcome_of(number: u8) -> PmvUpdateOutcome
-    ensures { result ≡ outcomeOf number }
+    ensures { result ≡ outcome_of number }
 {
     if number == 0 {
         return PmvUpdateOutcome::IntraConcealmentCopyForwardFirst;
@@ -337,7 +337,7 @@ fn chosen(first: bool, a: i32, b: i32) -> i32
 
 /// What a row does to the predictors. All eight are written out, as in `Pmv::with`.
 fn carried_out(pmv: Pmv, row: u8) -> Pmv
-    ensures { result ≡ carriedOut row pmv }
+    ensures { result ≡ carried_out row pmv }
 {
     let v = pmv.values;
     let zero = row & RESETS != 0;
@@ -360,8 +360,8 @@ fn carried_out(pmv: Pmv, row: u8) -> Pmv
 /// The predictors after a macroblock, and which row of Tables 7-10 and 7-11 it was. A refusal changes no predictor.
 pub fn updated_predictors(pmv: Pmv, ctx: PmvUpdateContext) -> PredictorUpdate
     ensures update { result ≡ updated pmv ctx }
-    ensures number { updateNumber result.answer ≡ updateRefusal ctx }
-    ensures value { updateValue result.answer ≡ valueUnless (updateNumber result.answer) (updateOutcome ctx) }
+    ensures number { update_number result.answer ≡ update_refusal ctx }
+    ensures value { update_value result.answer ≡ value_unless (update_number result.answer) (update_outcome ctx) }
 {
     let row = decide(ctx);
     PredictorUpdate {
@@ -371,13 +371,13 @@ pub fn updated_predictors(pmv: Pmv, ctx: PmvUpdateContext) -> PredictorUpdate
 }
 
 /// All predictors become zero where a macroblock of a P or B picture is predicted spatially alone, which is weight class 4.
-#[tactic(auto, unfolding(crate::specs::Update::spatialTemporalReset))]
+#[tactic(auto, unfolding(crate::specs::Update::spatial_temporal_reset))]
 pub fn spatial_temporal_reset_applied(
     pmv: Pmv,
     picture_coding_type: PictureCodingType,
     spatial_temporal_weight_class: u8,
 ) -> SpatialTemporalReset
-    ensures { result ≡ spatialTemporalReset pmv picture_coding_type spatial_temporal_weight_class }
+    ensures { result ≡ spatial_temporal_reset pmv picture_coding_type spatial_temporal_weight_class }
 {
     if (spatial_temporal_weight_class == 4) & picture_coding_type.is_inter() {
         return SpatialTemporalReset {

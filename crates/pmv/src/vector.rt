@@ -1,11 +1,11 @@
 //! ISO/IEC 13818-2, 7.6.3.1: components and vectors are decoded against the predictors, which take the new values.
 ghost use Rattle.std.specs.Prelude.{◌≡◌, false};
-ghost use Rattle.forming_predictions.specs.SampleAnswers.{valueUnless};
+ghost use Rattle.forming_predictions.specs.SampleAnswers.{value_unless};
 ghost use Rattle.pmv.specs.Component.{halves};
 ghost use Rattle.pmv.specs.Predictors.{pair_of};
-ghost use Rattle.pmv.specs.Vector.{ported, partRefusal, part, decoded, vectorRefusal, components, reconstructedPair, reconstructed};
+ghost use Rattle.pmv.specs.Vector.{ported, part_refusal, part, decoded, vector_refusal, components, reconstructed_pair, reconstructed};
 ghost use Rattle.pmv.specs.inner.Steps.{joined};
-ghost use Rattle.pmv.specs.Answers.{reconstructedNumber, reconstructedValue, vectorNumber, vectorValue};
+ghost use Rattle.pmv.specs.Answers.{reconstructed_number, reconstructed_value, vector_number, vector_value};
 
 use crate::component::{
     MotionResidual, Reconstructed, ReconstructedComponent, reconstruct_component,
@@ -106,8 +106,8 @@ pub fn decoded_motion_vector(
     f_code: u8,
 ) -> DecodedComponent
     ensures decoding { result ≡ decoded pmv r s t f_code motion_code motion_residual false ported }
-    ensures number { reconstructedNumber result.answer ≡ partRefusal pmv r s t f_code motion_code motion_residual false ported }
-    ensures value { reconstructedValue result.answer ≡ valueUnless (reconstructedNumber result.answer) (part pmv r s t f_code motion_code motion_residual false) }
+    ensures number { reconstructed_number result.answer ≡ part_refusal pmv r s t f_code motion_code motion_residual false ported }
+    ensures value { reconstructed_value result.answer ≡ value_unless (reconstructed_number result.answer) (part pmv r s t f_code motion_code motion_residual false) }
 {
     decode(
         pmv,
@@ -158,9 +158,9 @@ pub fn reconstructed_pair(
     mv_format: MvFormat,
     picture: PictureStructure,
 ) -> DecodedPair
-    ensures reconstruction { result ≡ reconstructedPair prior mv f_code_horiz f_code_vert mv_format picture ported }
-    ensures number { vectorNumber result.answer ≡ vectorRefusal prior mv f_code_horiz f_code_vert mv_format picture ported }
-    ensures value { vectorValue result.answer ≡ valueUnless (vectorNumber result.answer) (components prior mv f_code_horiz f_code_vert mv_format picture) }
+    ensures reconstruction { result ≡ reconstructed_pair prior mv f_code_horiz f_code_vert mv_format picture ported }
+    ensures number { vector_number result.answer ≡ vector_refusal prior mv f_code_horiz f_code_vert mv_format picture ported }
+    ensures value { vector_value result.answer ≡ value_unless (vector_number result.answer) (components prior mv f_code_horiz f_code_vert mv_format picture) }
 {
     let residual_horiz = mv.motion_residual_horiz;
     let residual_vert = mv.motion_residual_vert;
@@ -208,8 +208,8 @@ pub fn reconstructed_motion_vector(
     picture: PictureStructure,
 ) -> DecodedVector
     ensures reconstruction { result ≡ reconstructed pmv mv r s f_code_horiz f_code_vert mv_format picture ported }
-    ensures number { vectorNumber result.answer ≡ vectorRefusal (pair_of pmv r s) mv f_code_horiz f_code_vert mv_format picture ported }
-    ensures value { vectorValue result.answer ≡ valueUnless (vectorNumber result.answer) (components (pair_of pmv r s) mv f_code_horiz f_code_vert mv_format picture) }
+    ensures number { vector_number result.answer ≡ vector_refusal (pair_of pmv r s) mv f_code_horiz f_code_vert mv_format picture ported }
+    ensures value { vector_value result.answer ≡ value_unless (vector_number result.answer) (components (pair_of pmv r s) mv f_code_horiz f_code_vert mv_format picture) }
 {
     let prior = pmv.pair(r, s);
     let decoded = reconstructed_pair(prior, mv, f_code_horiz, f_code_vert, mv_format, picture);

@@ -10,13 +10,13 @@ abbrev pub none : Tally
 none = record { at = 0; lines = 0; cases = 0; agree = 0; on = true; good = true }
 
 -- a line without a case
-abbrev pub afterComment : Tally → ℕ → Tally
-afterComment t next =
+abbrev pub after_comment : Tally → ℕ → Tally
+after_comment t next =
     record { at = next; lines = counted t.lines; cases = t.cases; agree = t.agree; on = true; good = t.good }
 
 -- a line with a case
-abbrev pub afterCase : Tally → Bool → ℕ → Tally
-afterCase t agrees next =
+abbrev pub after_case : Tally → Bool → ℕ → Tally
+after_case t agrees next =
     record {
       at = next;
       lines = counted t.lines;
@@ -27,6 +27,6 @@ afterCase t agrees next =
     }
 
 -- the end of the list, or of what is well formed of it
-abbrev pub atEnd : Tally → Bool → Tally
-atEnd t good =
+abbrev pub at_end : Tally → Bool → Tally
+at_end t good =
     record { at = t.at; lines = t.lines; cases = t.cases; agree = t.agree; on = false; good = good }

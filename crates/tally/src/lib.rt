@@ -2,7 +2,7 @@
 #![tactic(auto)]
 
 ghost use Rattle.std.specs.Prelude.{◌≡◌, IfOk};
-ghost use Rattle.tally.specs.Counts.{none, afterComment, afterCase, atEnd};
+ghost use Rattle.tally.specs.Counts.{none, after_comment, after_case, at_end};
 
 use std::io;
 
@@ -33,7 +33,7 @@ pub fn start() -> Tally
 
 /// After a comment; `next` is the place behind it.
 pub fn passed(t: Tally, next: usize) -> Tally
-    ensures { result ≡ afterComment t next }
+    ensures { result ≡ after_comment t next }
 {
     Tally {
         at: next,
@@ -47,7 +47,7 @@ pub fn passed(t: Tally, next: usize) -> Tally
 
 /// After a case; `next` is the place behind it.
 pub fn judged(t: Tally, agrees: bool, next: usize) -> Tally
-    ensures { result ≡ afterCase t agrees next }
+    ensures { result ≡ after_case t agrees next }
 {
     let lines = t.lines.wrapping_add(1);
     let cases = t.cases.wrapping_add(1);
@@ -77,7 +77,7 @@ fn name(rt: &impl Print, case: u64, line: u64) -> io::Result<()> {
 
 /// The same as `judged`. A case that does not agree is named, with its line, if it is among the first eight.
 pub fn judge(rt: &impl Print, t: Tally, agrees: bool, next: usize) -> io::Result<Tally>
-    ensures { IfOk result (λ r. r ≡ afterCase t agrees next) }
+    ensures { IfOk result (λ r. r ≡ after_case t agrees next) }
 {
     let r = judged(t, agrees, next);
     if !agrees & (t.cases.wrapping_sub(t.agree) < 8) {
@@ -88,7 +88,7 @@ pub fn judge(rt: &impl Print, t: Tally, agrees: bool, next: usize) -> io::Result
 
 /// At the end of the list, or, where `good` is false, at a line that is not well formed.
 pub fn stopped(t: Tally, good: bool) -> Tally
-    ensures { result ≡ atEnd t good }
+    ensures { result ≡ at_end t good }
 {
     Tally {
         at: t.at,

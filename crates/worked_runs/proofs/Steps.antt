@@ -3,17 +3,17 @@
 use mathlib.Core.Path.{refl}
 use Rattle.laws.specs.All.{All}
 use Rattle.laws.specs.Tabulate.{tabulate}
-use Rattle.forming_predictions.specs.Splitting.{floorHalf, halfFlag}
-use Rattle.forming_predictions.specs.Lines.{fieldLines, clampTo, row_of, sampleAt}
+use Rattle.forming_predictions.specs.Splitting.{floor_half, half_flag}
+use Rattle.forming_predictions.specs.Lines.{field_lines, clamp_to, row_of, sample_at}
 use Rattle.forming_predictions.specs.Forming.{combined, formed}
-use Rattle.forming_predictions.specs.Refusals.{planeFits}
-use Rattle.pmv.specs.Chroma.{truncHalf}
-use Rattle.inter_reconstruction.specs.Macroblock.{fieldSample, directionSample, usedSample, rectangle, macroblock}
-use Rattle.inter_reconstruction.specs.Refusals.{sameGeometry, planesFit}
-use Rattle.inter_reconstruction.specs.Placing.{stored, pictureFits, wellFormed}
-use Rattle.drift.specs.Steps.{stepPredictionRefusal, prediction, stepPlacingRefusal, placement}
-use Rattle.drift.specs.Unrounded.{tableRefusal, unroundedPrediction, unroundedPlacement}
-use Rattle.worked_runs.specs.Steps.{PlaneLengths, Leaves, copies, byFields, Refuses, refusals, StepsHold}
+use Rattle.forming_predictions.specs.Refusals.{plane_fits}
+use Rattle.pmv.specs.Chroma.{trunc_half}
+use Rattle.inter_reconstruction.specs.Macroblock.{field_sample, direction_sample, used_sample, rectangle, macroblock}
+use Rattle.inter_reconstruction.specs.Refusals.{same_geometry, planes_fit}
+use Rattle.inter_reconstruction.specs.Placing.{stored, picture_fits, well_formed}
+use Rattle.drift.specs.Steps.{step_prediction_refusal, prediction, step_placing_refusal, placement}
+use Rattle.drift.specs.Unrounded.{table_refusal, unrounded_prediction, unrounded_placement}
+use Rattle.worked_runs.specs.Steps.{PlaneLengths, Leaves, copies, by_fields, Refuses, refusals, StepsHold}
 
 infixr 60 ◌◂◌
 -- a row, and those below it
@@ -24,15 +24,15 @@ pub lengths : PlaneLengths
 lengths = (refl, refl, refl, refl)
 
 pub copied : All Leaves copies
-unfolding tabulate floorHalf halfFlag fieldLines clampTo row_of sampleAt combined formed planeFits truncHalf fieldSample directionSample usedSample rectangle macroblock sameGeometry planesFit stored pictureFits wellFormed stepPredictionRefusal prediction stepPlacingRefusal placement tableRefusal unroundedPrediction unroundedPlacement
+unfolding tabulate floor_half half_flag field_lines clamp_to row_of sample_at combined formed plane_fits trunc_half field_sample direction_sample used_sample rectangle macroblock same_geometry planes_fit stored picture_fits well_formed step_prediction_refusal prediction step_placing_refusal placement table_refusal unrounded_prediction unrounded_placement
 copied = (refl, refl) ◂ (refl, refl) ◂ (refl, refl) ◂ (refl, refl) ◂ (refl, refl) ◂ (refl, refl) ◂ (refl, refl) ◂ (refl, refl) ◂ tt
 
-pub by-fields : All Leaves byFields
-unfolding tabulate floorHalf halfFlag fieldLines clampTo row_of sampleAt combined formed planeFits truncHalf fieldSample directionSample usedSample rectangle macroblock sameGeometry planesFit stored pictureFits wellFormed stepPredictionRefusal prediction stepPlacingRefusal placement tableRefusal unroundedPrediction unroundedPlacement
-by-fields = (refl, refl) ◂ (refl, refl) ◂ (refl, refl) ◂ (refl, refl) ◂ (refl, refl) ◂ (refl, refl) ◂ tt
+pub by_fields_lem : All Leaves by_fields
+unfolding tabulate floor_half half_flag field_lines clamp_to row_of sample_at combined formed plane_fits trunc_half field_sample direction_sample used_sample rectangle macroblock same_geometry planes_fit stored picture_fits well_formed step_prediction_refusal prediction step_placing_refusal placement table_refusal unrounded_prediction unrounded_placement
+by_fields_lem = (refl, refl) ◂ (refl, refl) ◂ (refl, refl) ◂ (refl, refl) ◂ (refl, refl) ◂ (refl, refl) ◂ tt
 
 pub refuse : All Refuses refusals
-unfolding tabulate floorHalf halfFlag fieldLines clampTo row_of sampleAt combined formed planeFits truncHalf fieldSample directionSample usedSample rectangle macroblock sameGeometry planesFit stored pictureFits wellFormed stepPredictionRefusal prediction stepPlacingRefusal placement tableRefusal unroundedPrediction unroundedPlacement
+unfolding tabulate floor_half half_flag field_lines clamp_to row_of sample_at combined formed plane_fits trunc_half field_sample direction_sample used_sample rectangle macroblock same_geometry planes_fit stored picture_fits well_formed step_prediction_refusal prediction step_placing_refusal placement table_refusal unrounded_prediction unrounded_placement
 refuse =
     (refl, refl, refl)
     ◂ (refl, refl, refl)
@@ -45,5 +45,5 @@ refuse =
     ◂ (refl, refl, refl)
     ◂ tt
 
-pub steps-hold : StepsHold
-steps-hold = (lengths, copied, by-fields, refuse)
+pub steps_hold : StepsHold
+steps_hold = (lengths, copied, by_fields_lem, refuse)

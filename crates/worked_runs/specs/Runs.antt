@@ -11,8 +11,8 @@ use Rattle.inter_reconstruction.specs.declared.frames.FrameGeometry.{FrameGeomet
 use Rattle.inter_reconstruction.specs.declared.motion.FrameDirection.TheVariants as Frame
 use Rattle.inter_reconstruction.specs.declared.motion.FieldDirection.TheVariants as Field
 use Rattle.inter_reconstruction.specs.declared.motion.FieldVectorPair.{FieldVectorPair}
-use Rattle.drift.specs.Steps.{Step, frameBased, fieldBased, Pictures, afterSteps}
-use Rattle.drift.specs.Unrounded.{tableRefusal, afterUnroundedSteps, inUnits}
+use Rattle.drift.specs.Steps.{Step, frame_based, field_based, Pictures, after_steps}
+use Rattle.drift.specs.Unrounded.{table_refusal, after_unrounded_steps, in_units}
 use Rattle.drift.specs.Drift.{DriftWithin}
 
 -- ---- what is claimed of the figure
@@ -40,11 +40,11 @@ abbrev pub each : (ℕ → Step) → ℕ → List Step
 each s zero = []
 each s (suc n) = each s n ++ (s (suc n) ∷ [])
 
-abbrev pub sampleOf : List Step → Pictures → ℕ → ColourComponent → ℕ → ℕ
-sampleOf steps first n c i = get_or (afterSteps g steps first n c) i 0
+abbrev pub sample_of : List Step → Pictures → ℕ → ColourComponent → ℕ → ℕ
+sample_of steps first n c i = get_or (after_steps g steps first n c) i 0
 
-abbrev pub unroundedOf : List Step → Pictures → ℕ → ColourComponent → ℕ → ℕ
-unroundedOf steps first n c i = get_or (afterUnroundedSteps g steps (inUnits first) n c) i 0
+abbrev pub unrounded_of : List Step → Pictures → ℕ → ColourComponent → ℕ → ℕ
+unrounded_of steps first n c i = get_or (after_unrounded_steps g steps (in_units first) n c) i 0
 
 -- ---- n above: rows 0, 1, 2, .. by the row's number. Both directions from the picture before, half a row down and half a row up, make each
 -- picture a grey step brighter, and the means are the rows again
@@ -61,7 +61,7 @@ brighter n =
       column = 0;
       row = 0;
       motion =
-          frameBased
+          frame_based
           (record {
             forward = Frame.Present (record { horizontal = pos 0; vertical = pos 1 });
             backward = Frame.Present (record { horizontal = pos 0; vertical = negsuc 0 });
@@ -71,7 +71,7 @@ brighter n =
 -- at row 8
 abbrev pub MeetsAbove : ℕ → Type 0
 MeetsAbove n =
-    4 * (8 ^ n * sampleOf (each brighter n) rows n luma 128) ≡ 4 * unroundedOf (each brighter n) rows n luma 128 + 4 * n * 8 ^ n
+    4 * (8 ^ n * sample_of (each brighter n) rows n luma 128) ≡ 4 * unrounded_of (each brighter n) rows n luma 128 + 4 * n * 8 ^ n
 
 -- ---- n / 4 below: d (d - 1) / 2 at column x and row y, where d is x - y. Half a sample to the right and down, the sum of four samples is one
 -- more than four times the first: the picture stays, and the means gain a quarter
@@ -90,13 +90,13 @@ unchanged n =
       backward = none;
       column = 0;
       row = 0;
-      motion = frameBased (record { forward = Frame.Present (record { horizontal = pos 1; vertical = pos 1 }); backward = Frame.Absent });
+      motion = frame_based (record { forward = Frame.Present (record { horizontal = pos 1; vertical = pos 1 }); backward = Frame.Absent });
     }
 
 -- at column 3 and row 1
 abbrev pub MeetsBelow : ℕ → Type 0
 MeetsBelow n =
-    4 * unroundedOf (each unchanged n) hollow n luma 19 ≡ 4 * (8 ^ n * sampleOf (each unchanged n) hollow n luma 19) + n * 8 ^ n
+    4 * unrounded_of (each unchanged n) hollow n luma 19 ≡ 4 * (8 ^ n * sample_of (each unchanged n) hollow n luma 19) + n * 8 ^ n
 
 -- pictures 1 to 4 meet the figure, above and below
 abbrev pub FigureMet : Type 0
@@ -127,7 +127,7 @@ mixed =
       backward = some 1;
       column = 0;
       row = 0;
-      motion = fieldBased (record { forward = Field.Present there; backward = Field.Present back });
+      motion = field_based (record { forward = Field.Present there; backward = Field.Present back });
     }
 
 -- motion in both directions and neither reference; a cell outside the picture
@@ -138,18 +138,18 @@ abbrev pub outside : Step
 outside = record { target = 2; forward = some 0; backward = some 1; column = 1; row = 0; motion = mixed.motion }
 
 abbrev pub Refused : Type 0
-Refused = (tableRefusal g mixed ≡ 0) × (tableRefusal g missing ≡ 16) × (tableRefusal g outside ≡ 20)
+Refused = (table_refusal g mixed ≡ 0) × (table_refusal g missing ≡ 16) × (table_refusal g outside ≡ 20)
 
 abbrev pub steps : List Step
 steps = missing ∷ brighter 1 ∷ mixed ∷ outside ∷ unchanged 1 ∷ missing ∷ []
 
 -- a sample of picture 2 on both sides, in row 5, by the bottom fields' vectors: 5 beside 4 1/8 grey steps
 abbrev pub BothSides : Type 0
-BothSides = (sampleOf steps hollow 2 luma 86 ≡ 5) × (unroundedOf steps hollow 2 luma 86 ≡ 264)
+BothSides = (sample_of steps hollow 2 luma 86 ≡ 5) × (unrounded_of steps hollow 2 luma 86 ≡ 264)
 
 -- a sample of picture 1's Cb, by vectors without a half: 3 grey steps on both sides
 abbrev pub WholeVectors : Type 0
-WholeVectors = (sampleOf steps hollow 1 cb 9 ≡ 3) × (unroundedOf steps hollow 1 cb 9 ≡ 24)
+WholeVectors = (sample_of steps hollow 1 cb 9 ≡ 3) × (unrounded_of steps hollow 1 cb 9 ≡ 24)
 
 abbrev pub ListHolds : Type 0
 ListHolds = Refused × BothSides × WholeVectors

@@ -14,8 +14,8 @@ use Rattle.inter_reconstruction.specs.declared.motion.FrameDirection.TheVariants
 use Rattle.inter_reconstruction.specs.declared.motion.FieldVector.{FieldVector}
 use Rattle.inter_reconstruction.specs.declared.motion.FieldDirection.{FieldDirection}
 use Rattle.inter_reconstruction.specs.declared.motion.FieldDirection.TheVariants as Field
-use Rattle.drift.specs.Steps.{Step, frameBased, fieldBased, Pictures, stepPredictionRefusal, stepPlacingRefusal, afterSteps}
-use Rattle.drift.specs.Unrounded.{tableRefusal, fittingLengths, afterUnroundedSteps, inUnits}
+use Rattle.drift.specs.Steps.{Step, frame_based, field_based, Pictures, step_prediction_refusal, step_placing_refusal, after_steps}
+use Rattle.drift.specs.Unrounded.{table_refusal, fitting_lengths, after_unrounded_steps, in_units}
 
 -- ---- the pictures: two macroblocks side by side in 4:2:2, and one above the other in 4:2:0
 
@@ -27,23 +27,23 @@ high = record { width = 16; height = 32; chroma_format = Yuv420 }
 
 abbrev pub PlaneLengths : Type 0
 PlaneLengths =
-    (fittingLengths wide luma ≡ 512) × (fittingLengths wide cb ≡ 256) × (fittingLengths high luma ≡ 512) × (fittingLengths high cr ≡ 128)
+    (fitting_lengths wide luma ≡ 512) × (fitting_lengths wide cb ≡ 256) × (fitting_lengths high luma ≡ 512) × (fitting_lengths high cr ≡ 128)
 
 -- 1000 more from one plane to the next, and 4001 from one picture to the next
 abbrev pub numbered : FrameGeometry → Pictures
-numbered g n luma = tabulate (fittingLengths g luma) (λ (i : ℕ). 4001 * n + i)
-numbered g n cb = tabulate (fittingLengths g cb) (λ (i : ℕ). 4001 * n + 1000 + i)
-numbered g n cr = tabulate (fittingLengths g cr) (λ (i : ℕ). 4001 * n + 2000 + i)
+numbered g n luma = tabulate (fitting_lengths g luma) (λ (i : ℕ). 4001 * n + i)
+numbered g n cb = tabulate (fitting_lengths g cb) (λ (i : ℕ). 4001 * n + 1000 + i)
+numbered g n cr = tabulate (fitting_lengths g cr) (λ (i : ℕ). 4001 * n + 2000 + i)
 
 -- ---- the steps: picture n's cell, predicted from the forward and the backward reference
 
 abbrev pub step : ℕ → Option ℕ → Option ℕ → ℕ → ℕ → FrameDirection → FrameDirection → Step
 step n f b x y df db =
-    record { target = n; forward = f; backward = b; column = x; row = y; motion = frameBased (record { forward = df; backward = db }) }
+    record { target = n; forward = f; backward = b; column = x; row = y; motion = frame_based (record { forward = df; backward = db }) }
 
-abbrev pub fieldStep : ℕ → Option ℕ → Option ℕ → ℕ → ℕ → FieldDirection → FieldDirection → Step
-fieldStep n f b x y df db =
-    record { target = n; forward = f; backward = b; column = x; row = y; motion = fieldBased (record { forward = df; backward = db }) }
+abbrev pub field_step : ℕ → Option ℕ → Option ℕ → ℕ → ℕ → FieldDirection → FieldDirection → Step
+field_step n f b x y df db =
+    record { target = n; forward = f; backward = b; column = x; row = y; motion = field_based (record { forward = df; backward = db }) }
 
 -- by vectors of 0
 abbrev pub still : FrameDirection
@@ -74,8 +74,8 @@ pub record Left : Type 0 where
 
 abbrev pub Leaves : Left → Type 0
 Leaves l =
-    (get_or (afterSteps l.g l.steps (numbered l.g) l.n l.c) l.i 0 ≡ l.sample)
-    × (get_or (afterUnroundedSteps l.g l.steps (inUnits (numbered l.g)) l.n l.c) l.i 0 ≡ l.unrounded)
+    (get_or (after_steps l.g l.steps (numbered l.g) l.n l.c) l.i 0 ≡ l.sample)
+    × (get_or (after_unrounded_steps l.g l.steps (in_units (numbered l.g)) l.n l.c) l.i 0 ≡ l.unrounded)
 
 abbrev pub left : FrameGeometry → List Step → ℕ → ColourComponent → ℕ → ℕ → ℕ → Left
 left g steps n c i sample unrounded = record { g = g; steps = steps; n = n; c = c; i = i; sample = sample; unrounded = unrounded }
@@ -99,17 +99,17 @@ copies =
 -- number is its place, so that the unrounded number says where is read: four samples once, two twice each, one four times. Row 31 is line 15 of
 -- the bottom field: forward (-3, -5) leads to columns 7 and 8 of lines 12 and 13 of the top field, rows 24 and 26; backward (5, -2) to columns 11
 -- and 12 of line 14 of the bottom field, row 29.
-abbrev pub byFields : List Left
-byFields =
+abbrev pub by_fields : List Left
+by_fields =
     -- row 31 and column 9 of the luminance; row 11 of Cb and row 15 of Cr, by (-1, -2) and (2, -1)
-    left high (fieldStep 2 (some 0) (some 1) 0 1 crossing bottoms ∷ []) 2 luma 505 2443 (8 * (391 + 392 + 423 + 424 + 2 * (4476 + 4477)))
-    ∷ left high (fieldStep 2 (some 0) (some 1) 0 1 crossing bottoms ∷ []) 2 cb 92 3077 (8 * (2 * (1067 + 1068) + 2 * (5078 + 5094)))
-    ∷ left high (fieldStep 2 (some 0) (some 1) 0 1 crossing bottoms ∷ []) 2 cr 125 4110 (8 * (2 * (2100 + 2101) + 2 * (6111 + 6127)))
+    left high (field_step 2 (some 0) (some 1) 0 1 crossing bottoms ∷ []) 2 luma 505 2443 (8 * (391 + 392 + 423 + 424 + 2 * (4476 + 4477)))
+    ∷ left high (field_step 2 (some 0) (some 1) 0 1 crossing bottoms ∷ []) 2 cb 92 3077 (8 * (2 * (1067 + 1068) + 2 * (5078 + 5094)))
+    ∷ left high (field_step 2 (some 0) (some 1) 0 1 crossing bottoms ∷ []) 2 cr 125 4110 (8 * (2 * (2100 + 2101) + 2 * (6111 + 6127)))
     -- row 8 of Cb in 4:2:2, by (1, 3) and (0, 4)
-    ∷ left wide (fieldStep 2 (some 0) (some 1) 1 0 crossing bottoms ∷ []) 2 cb 140 3213 (8 * (1188 + 1189 + 1220 + 1221 + 4 * 5221))
+    ∷ left wide (field_step 2 (some 0) (some 1) 1 0 crossing bottoms ∷ []) 2 cb 140 3213 (8 * (1188 + 1189 + 1220 + 1221 + 4 * 5221))
     -- of both directions one reference, by its own pair of vectors: the sample of the first row, forward alone and backward alone
-    ∷ left high (fieldStep 2 (some 0) none 0 1 crossing bottoms ∷ []) 2 luma 505 408 (2 * 8 * (391 + 392 + 423 + 424))
-    ∷ left high (fieldStep 2 none (some 1) 0 1 crossing bottoms ∷ []) 2 luma 505 4477 (2 * 8 * (2 * (4476 + 4477)))
+    ∷ left high (field_step 2 (some 0) none 0 1 crossing bottoms ∷ []) 2 luma 505 408 (2 * 8 * (391 + 392 + 423 + 424))
+    ∷ left high (field_step 2 none (some 1) 0 1 crossing bottoms ∷ []) 2 luma 505 4477 (2 * 8 * (2 * (4476 + 4477)))
     ∷ []
 
 -- ---- what is refused in the wide pictures: by the table, by the prediction and by placing
@@ -122,9 +122,9 @@ pub record Refused : Type 0 where
 
 abbrev pub Refuses : Refused → Type 0
 Refuses r =
-    (tableRefusal wide r.step ≡ r.table)
-    × (stepPredictionRefusal wide r.step (numbered wide) ≡ r.predicting)
-    × (stepPlacingRefusal wide r.step (numbered wide) ≡ r.placing)
+    (table_refusal wide r.step ≡ r.table)
+    × (step_prediction_refusal wide r.step (numbered wide) ≡ r.predicting)
+    × (step_placing_refusal wide r.step (numbered wide) ≡ r.placing)
 
 abbrev pub refused : Step → ℕ → ℕ → ℕ → Refused
 refused s table predicting placing = record { step = s; table = table; predicting = predicting; placing = placing }
@@ -147,4 +147,4 @@ refusals =
 -- ---- what is claimed: every row of the three lists
 
 abbrev pub StepsHold : Type 0
-StepsHold = PlaneLengths × All Leaves copies × All Leaves byFields × All Refuses refusals
+StepsHold = PlaneLengths × All Leaves copies × All Leaves by_fields × All Refuses refusals

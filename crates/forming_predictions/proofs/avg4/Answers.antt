@@ -5,5 +5,5 @@ use Rattle.forming_predictions.specs.Undivided.{undivided}
 use Rattle.forming_predictions.proofs.avg4.Code as code
 
 -- the mean of four divides, and `undivided` sees it
-pub avg4-divides : undivided [] code.function.body ≡ false
-avg4-divides = refl
+pub avg4_divides : undivided [] code.function.body ≡ false
+avg4_divides = refl

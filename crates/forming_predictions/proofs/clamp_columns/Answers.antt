@@ -2,16 +2,16 @@
 -- Assumes nothing.
 use Rattle.std.proofs.Common.{ap, ◌∙◌, w32}
 use Rattle.laws.proofs.Bits.{back}
-use Rattle.laws.proofs.Filled.{filled_none, filled-step}
-use Rattle.forming_predictions.specs.Lines.{clampTo}
-use Rattle.forming_predictions.specs.inner.Views.{columnAt}
+use Rattle.laws.proofs.Filled.{filled_none, filled_step}
+use Rattle.forming_predictions.specs.Lines.{clamp_to}
+use Rattle.forming_predictions.specs.inner.Views.{column_at}
 use Rattle.forming_predictions.proofs.clamp_columns.Goals as goal
 
 pub loop-k-init : goal.loop-k-init
 loop-k-init c = filled_none _ _
 
 pub loop-k-preserved : goal.loop-k-preserved
-unfolding columnAt
+unfolding column_at
 loop-k-preserved c =
-    filled-step c.loop-k.invariant c.loop-k-test.true
-    (c.clamp_to.ensures ∙ ap (clampTo c.args.width) (back w32 c.shifted.result c.shifted.type_inv ∙ c.shifted.ensures))
+    filled_step c.loop-k.invariant c.loop-k-test.true
+    (c.clamp_to.ensures ∙ ap (clamp_to c.args.width) (back w32 c.shifted.result c.shifted.type_inv ∙ c.shifted.ensures))

@@ -2,11 +2,11 @@
 -- Assumes nothing.
 use Rattle.std.proofs.Common.{length, ◌-◌}
 use Rattle.laws.proofs.Filled.{Filled}
-use Rattle.forming_predictions.specs.inner.Views.{columnAt}
+use Rattle.forming_predictions.specs.inner.Views.{column_at}
 use Rattle.forming_predictions.proofs.clamp_columns.Given as goal
 
 abbrev pub invariant-loop-k : goal.invariant-loop-k
-invariant-loop-k l = Filled (columnAt l.width l.x) l.initial.columns l.k l.columns
+invariant-loop-k l = Filled (column_at l.width l.x) l.initial.columns l.k l.columns
 
 abbrev pub decreases-loop-k : goal.decreases-loop-k
 decreases-loop-k l = length l.initial.columns - l.k

@@ -5,20 +5,20 @@ use mir.Facts.{to_z-of_z}
 use Rattle.laws.proofs.Bits.{back}
 use Rattle.laws.proofs.Rows.{rows_none, rows_step, rows_all}
 use Rattle.forming_predictions.specs.Forming.{block_of}
-use Rattle.forming_predictions.specs.inner.Views.{viewRead, spread, lineCell}
-use Rattle.forming_predictions.proofs.Blocks.{row-of-block}
+use Rattle.forming_predictions.specs.inner.Views.{view_read, spread, line_cell}
+use Rattle.forming_predictions.proofs.Blocks.{row_of_block}
 use Rattle.forming_predictions.proofs.clamped_lines.Goals as goal
 
 pub loop-r-init : goal.loop-r-init
 loop-r-init c = rows_none _ _ _ _ c.requires.3.count
 
 pub loop-r-preserved : goal.loop-r-preserved
-unfolding lineCell
+unfolding line_cell
 loop-r-preserved c =
     let a = c.args in
     let at = back w32 c.shifted.result c.shifted.type_inv ∙ c.shifted.ensures in
     rows_step c.loop-r.invariant c.loop-r-test.true (rw at at c.clamped_line.ensures)
-    (λ k q. row-of-block (λ (x y : ℤ). spread (viewRead a.samples.now a.width a.first a.step a.count) x y a.dx a.dy) (to_z w32 (of_z w32 a.x)) (to_z w32 (of_z w32 a.y)) a.block_width c.loop-r.r k q)
+    (λ k q. row_of_block (λ (x y : ℤ). spread (view_read a.samples.now a.width a.first a.step a.count) x y a.dx a.dy) (to_z w32 (of_z w32 a.x)) (to_z w32 (of_z w32 a.y)) a.block_width c.loop-r.r k q)
 
 pub returns : goal.returns
 unfolding block_of

@@ -2,12 +2,12 @@
 -- Assumes nothing.
 use Rattle.std.proofs.Common.{ℕ, ◌-◌, ◌/◌, ◌%◌, pos, ◌+ℤ◌}
 use Rattle.laws.proofs.Rows.{RowsFilled}
-use Rattle.forming_predictions.specs.inner.Views.{viewRead, spread}
+use Rattle.forming_predictions.specs.inner.Views.{view_read, spread}
 use Rattle.forming_predictions.proofs.clamped_lines.Given as goal
 
 abbrev pub invariant-loop-r : goal.invariant-loop-r
 invariant-loop-r l =
-    RowsFilled (λ (k : ℕ). spread (viewRead l.samples l.width l.first l.step l.count) (l.x +ℤ pos (k % l.block_width)) (l.y +ℤ pos (k / l.block_width)) l.dx l.dy) l.initial.out l.block_width l.height l.r l.out
+    RowsFilled (λ (k : ℕ). spread (view_read l.samples l.width l.first l.step l.count) (l.x +ℤ pos (k % l.block_width)) (l.y +ℤ pos (k / l.block_width)) l.dx l.dy) l.initial.out l.block_width l.height l.r l.out
 
 abbrev pub decreases-loop-r : goal.decreases-loop-r
 decreases-loop-r l = l.height - l.r

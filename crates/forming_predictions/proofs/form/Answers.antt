@@ -3,7 +3,7 @@
 use Rattle.std.proofs.Common.{sym, ◌∙◌, arith}
 use Rattle.laws.proofs.Tests.{both}
 use Rattle.laws.proofs.Bits.{cast_ok, cast_val, up_is}
-use Rattle.forming_predictions.proofs.Eights.{eights-yes}
+use Rattle.forming_predictions.proofs.Eights.{eights_yes}
 use Rattle.forming_predictions.proofs.Reading.{inside_at}
 use Rattle.forming_predictions.proofs.form.Goals as goal
 
@@ -31,7 +31,7 @@ form_inside-requires c =
         right = omega (arith, cast_val c.ranges.x x.0, x.1);
         below = omega (arith, cast_val c.ranges.y y.0, y.1);
       },
-      eights-yes c.args.block_width (sym c.by_eights.ensures ∙ all.1),
+      eights_yes c.args.block_width (sym c.by_eights.ensures ∙ all.1),
     )
 
 pub returns-then-inside-by_eights : goal.returns-then-inside-by_eights

@@ -1,11 +1,11 @@
 -- The two rows lie in the samples, and nothing is clamped.
 -- Assumes nothing.
 use Rattle.std.proofs.Common.{◌∙◌}
-use Rattle.laws.proofs.Tabulated.{tab-ext}
-use Rattle.forming_predictions.proofs.Blocks.{line-cells}
+use Rattle.laws.proofs.Tabulated.{tab_ext}
+use Rattle.forming_predictions.proofs.Blocks.{line_cells}
 use Rattle.forming_predictions.proofs.form_line.Goals as goal
 
 pub returns : goal.returns
 returns c =
     c.form_row.ensures
-    ∙ tab-ext _ _ _ (λ k h. line-cells c.requires.0 c.requires.1 c.line_start-a.ensures c.line_start-b.ensures k h)
+    ∙ tab_ext _ _ _ (λ k h. line_cells c.requires.0 c.requires.1 c.line_start-a.ensures c.line_start-b.ensures k h)

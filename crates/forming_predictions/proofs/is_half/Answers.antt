@@ -7,8 +7,8 @@ use Rattle.forming_predictions.proofs.is_half.Code as code
 use Rattle.forming_predictions.proofs.is_half.Goals as goal
 
 -- no division, and it calls nothing
-pub is-half-undivided : undivided [] code.function.body ≡ true
-is-half-undivided = refl
+pub is_half_undivided : undivided [] code.function.body ≡ true
+is_half_undivided = refl
 
 pub returns : goal.returns
 returns c = flag_is c.args.vector c.ranges.vector

@@ -1,13 +1,13 @@
 -- The tests are those of the definition, in its order.
 -- Assumes nothing.
-use Rattle.forming_predictions.proofs.Refusals.{wide-plane, high-plane, counted-plane}
+use Rattle.forming_predictions.proofs.Refusals.{wide_plane, high_plane, counted_plane}
 use Rattle.forming_predictions.proofs.plane_fits.Goals as goal
 
 pub returns-then-plane-gt-LARGEST_SIDE : goal.returns-then-plane-gt-LARGEST_SIDE
-returns-then-plane-gt-LARGEST_SIDE c = wide-plane _ _ _ c.if-plane-gt-LARGEST_SIDE.true
+returns-then-plane-gt-LARGEST_SIDE c = wide_plane _ _ _ c.if-plane-gt-LARGEST_SIDE.true
 
 pub returns-then-plane-gt-LARGEST_SIDE-2 : goal.returns-then-plane-gt-LARGEST_SIDE-2
-returns-then-plane-gt-LARGEST_SIDE-2 c = high-plane _ _ _ c.if-plane-gt-LARGEST_SIDE.false c.if-plane-gt-LARGEST_SIDE-2.true
+returns-then-plane-gt-LARGEST_SIDE-2 c = high_plane _ _ _ c.if-plane-gt-LARGEST_SIDE.false c.if-plane-gt-LARGEST_SIDE-2.true
 
 pub returns : goal.returns
-returns c = counted-plane _ _ _ c.if-plane-gt-LARGEST_SIDE.false c.if-plane-gt-LARGEST_SIDE-2.false
+returns c = counted_plane _ _ _ c.if-plane-gt-LARGEST_SIDE.false c.if-plane-gt-LARGEST_SIDE-2.false

@@ -2,7 +2,7 @@
 -- Assumes nothing.
 use Rattle.std.proofs.Common.{◌∙◌}
 use mir.Facts.{to_z-of_z}
-use Rattle.forming_predictions.proofs.Refusals.{sample-cause}
+use Rattle.forming_predictions.proofs.Refusals.{sample_cause}
 use Rattle.forming_predictions.proofs.sample_refusal.Goals as goal
 
 pub returns : goal.returns
@@ -14,4 +14,4 @@ returns c =
       rw (to_z-of_z c.ranges.y) at c.position_fits-2.ensures,
     )
     at c.domain_refusal.ensures)
-    ∙ sample-cause a.plane.width a.plane.height a.count a.x a.y
+    ∙ sample_cause a.plane.width a.plane.height a.count a.x a.y

@@ -7,9 +7,9 @@ use Rattle.forming_predictions.specs.contracts.is_half.Key as is_half
 use Rattle.forming_predictions.proofs.split_component.Code as code
 
 -- no division, and it calls these two alone
-pub split-component-undivided : undivided (whole_part.symbol ∷ is_half.symbol ∷ []) code.function.body ≡ true
-split-component-undivided = refl
+pub split_component_undivided : undivided (whole_part.symbol ∷ is_half.symbol ∷ []) code.function.body ≡ true
+split_component_undivided = refl
 
 -- a call of what the list does not have is seen
-pub split-component-calls : undivided (is_half.symbol ∷ []) code.function.body ≡ false
-split-component-calls = refl
+pub split_component_calls : undivided (is_half.symbol ∷ []) code.function.body ≡ false
+split_component_calls = refl

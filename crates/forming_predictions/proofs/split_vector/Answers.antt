@@ -6,5 +6,5 @@ use Rattle.forming_predictions.specs.contracts.split_component.Key as split_comp
 use Rattle.forming_predictions.proofs.split_vector.Code as code
 
 -- no division, and it calls this one alone
-pub split-vector-undivided : undivided (split_component.symbol ∷ []) code.function.body ≡ true
-split-vector-undivided = refl
+pub split_vector_undivided : undivided (split_component.symbol ∷ []) code.function.body ≡ true
+split_vector_undivided = refl

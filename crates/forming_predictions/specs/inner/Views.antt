@@ -4,65 +4,65 @@ use Rattle.std.specs.Prelude.{◌≡◌, Bool, true, false, ◌||◌, cond, List
 use Rattle.std.specs.Int.{w32}
 use Rattle.std.proofs.Common.{SFits}
 use Rattle.combine_predictions.specs.Averaging.{mean2}
-use Rattle.forming_predictions.specs.Lines.{Lines, clampTo, row_of}
+use Rattle.forming_predictions.specs.Lines.{Lines, clamp_to, row_of}
 use Rattle.forming_predictions.specs.Means.{mean4}
 use Rattle.forming_predictions.specs.Forming.{block_of}
 use Rattle.forming_predictions.specs.declared.Rows.{Rows}
 
 -- the place of line j's first sample, in rows of w samples
-abbrev pub lineStart : ℕ → ℕ → ℕ → ℕ → ℕ
-lineStart first step w j = (first + step * j) * w
+abbrev pub line_start : ℕ → ℕ → ℕ → ℕ → ℕ
+line_start first step w j = (first + step * j) * w
 
 -- the sample that (x, y) reads in a view of `count` lines that is not empty
-unfoldable pub viewRead : List ℕ → ℕ → ℕ → ℕ → ℕ → ℤ → ℤ → ℕ
-viewRead samples w first step count x y = get_or samples (lineStart first step w (clampTo count y) + clampTo w x) 0
+unfoldable pub view_read : List ℕ → ℕ → ℕ → ℕ → ℕ → ℤ → ℤ → ℕ
+view_read samples w first step count x y = get_or samples (line_start first step w (clamp_to count y) + clamp_to w x) 0
 
 -- the four cases of 7.6.4 as one: with a step of 0 to the side or down, samples are counted twice or four times
 unfoldable pub spread : (ℤ → ℤ → ℕ) → ℤ → ℤ → ℕ → ℕ → ℕ
 spread read x y dx dy = mean4 (read x y) (read (x +ℤ pos dx) y) (read x (y +ℤ pos dy)) (read (x +ℤ pos dx) (y +ℤ pos dy))
 
 -- sample k of a row, from column x on: the mean of two rows' samples, the second one's dx columns to the right
-unfoldable pub twoOf : List ℕ → List ℕ → ℕ → ℕ → ℕ → ℕ
-twoOf row below x dx k = mean2 (get_or row (x + k) 0) (get_or below (x + dx + k) 0)
+unfoldable pub two_of : List ℕ → List ℕ → ℕ → ℕ → ℕ → ℕ
+two_of row below x dx k = mean2 (get_or row (x + k) 0) (get_or below (x + dx + k) 0)
 
 -- the mean of four samples of two rows
-unfoldable pub fourOf : List ℕ → List ℕ → ℕ → ℕ → ℕ → ℕ
-fourOf row below x dx k =
+unfoldable pub four_of : List ℕ → List ℕ → ℕ → ℕ → ℕ → ℕ
+four_of row below x dx k =
     mean4 (get_or row (x + k) 0) (get_or row (x + dx + k) 0) (get_or below (x + k) 0) (get_or below (x + dx + k) 0)
 
 -- the mean of four samples of two rows, in the columns that x and the one dx further are clamped to
-unfoldable pub clampedOf : List ℕ → List ℕ → ℤ → ℕ → ℕ
-clampedOf row below x dx =
-    let here = clampTo (length row) x in
-    let right = clampTo (length row) (x +ℤ pos dx) in
+unfoldable pub clamped_of : List ℕ → List ℕ → ℤ → ℕ → ℕ
+clamped_of row below x dx =
+    let here = clamp_to (length row) x in
+    let right = clamp_to (length row) (x +ℤ pos dx) in
     mean4 (get_or row here 0) (get_or row right 0) (get_or below here 0) (get_or below right 0)
 
 -- sample k of a line y, from column x on
-unfoldable pub lineCell : List ℕ → ℕ → ℕ → ℕ → ℕ → ℤ → ℤ → ℕ → ℕ → ℕ → ℕ
-lineCell samples w first step count x y dx dy k = spread (viewRead samples w first step count) (x +ℤ pos k) y dx dy
+unfoldable pub line_cell : List ℕ → ℕ → ℕ → ℕ → ℕ → ℤ → ℤ → ℕ → ℕ → ℕ → ℕ
+line_cell samples w first step count x y dx dy k = spread (view_read samples w first step count) (x +ℤ pos k) y dx dy
 
 -- a row's sample in column k of a list of columns
-abbrev pub pickedOf : List ℕ → List ℕ → ℕ → ℕ
-pickedOf row columns k = get_or row (get_or columns k 0) 0
+abbrev pub picked_of : List ℕ → List ℕ → ℕ → ℕ
+picked_of row columns k = get_or row (get_or columns k 0) 0
 
 -- a line's sample in column k of a list of columns
 unfoldable pub picked : List ℕ → ℕ → ℕ → ℕ → ℕ → List ℕ → ℤ → ℕ → ℕ
 picked samples w first step count columns y k =
-    get_or samples (lineStart first step w (clampTo count y) + get_or columns k 0) 0
+    get_or samples (line_start first step w (clamp_to count y) + get_or columns k 0) 0
 
 -- the columns that a block reads
-unfoldable pub columnAt : ℕ → ℤ → ℕ → ℕ
-columnAt w x k = clampTo w (x +ℤ pos k)
+unfoldable pub column_at : ℕ → ℤ → ℕ → ℕ
+column_at w x k = clamp_to w (x +ℤ pos k)
 
 -- a block of a view, each sample spread by (dx, dy)
-abbrev pub viewBlock : List ℕ → ℕ → ℕ → ℕ → ℕ → ℤ → ℤ → ℕ → ℕ → ℕ → ℕ → List ℕ
-viewBlock samples w first step count x y dx dy bw bh =
-    block_of bw bh (λ (a b : ℤ). spread (viewRead samples w first step count) a b dx dy) x y
+abbrev pub view_block : List ℕ → ℕ → ℕ → ℕ → ℕ → ℤ → ℤ → ℕ → ℕ → ℕ → ℕ → List ℕ
+view_block samples w first step count x y dx dy bw bh =
+    block_of bw bh (λ (a b : ℤ). spread (view_read samples w first step count) a b dx dy) x y
 
 -- whether n places from a coordinate on lie below a limit
-unfoldable pub insideOf : ℤ → ℕ → ℕ → Bool
-insideOf (pos a) n limit = leb (a + n) limit
-insideOf (negsuc a) n limit = false
+unfoldable pub inside_of : ℤ → ℕ → ℕ → Bool
+inside_of (pos a) n limit = leb (a + n) limit
+inside_of (negsuc a) n limit = false
 
 -- a half as a step to the next sample
 abbrev pub bit_of : Bool → ℕ
@@ -77,7 +77,7 @@ pub record ViewFits (samples : List ℕ) (w first step count : ℕ) : Type 0 whe
   pub apart : step ≤ 2
   pub lines : 0 < count
   pub high : count ≤ 16384
-  pub room : (j : ℕ) → j < count → lineStart first step w j + w ≤ length samples
+  pub room : (j : ℕ) → j < count → line_start first step w j + w ≤ length samples
 
 -- a view, or no samples
 pub record Readable (samples : List ℕ) (w first step count : ℕ) : Type 0 where
@@ -119,14 +119,14 @@ pub record ColumnsFit (columns : List ℕ) (w : ℕ) : Type 0 where
 
 -- the columns and the room for samples that a block of bw columns may need
 pub record FetchFits (columns region : List ℕ) (w bw : ℕ) : Type 0 where
-  pub columns-count : length columns ≡ bw + 1
-  pub region-count : length region ≡ (bw + 1) * 17
+  pub columns_count : length columns ≡ bw + 1
+  pub region_count : length region ≡ (bw + 1) * 17
   pub inside : (k : ℕ) → k < length columns → get_or columns k 0 < w
 
 -- the columns and the room for samples that a block reads
 pub record RegionFits (columns region : List ℕ) (dx dy bw bh : ℕ) : Type 0 where
-  pub columns-count : length columns ≡ bw + dx
-  pub region-count : length region ≡ (bw + dx) * (bh + dy)
+  pub columns_count : length columns ≡ bw + dx
+  pub region_count : length region ≡ (bw + dx) * (bh + dy)
 
 -- a coordinate from which n steps can be made
 pub record Steps (n : ℕ) (z : ℤ) : Type 0 where
@@ -148,9 +148,9 @@ pub record RowsFit (r : Rows) (h : ℕ) : Type 0 where
 -- and they are the ones that `l` reads
 pub record ReadsAs (l : Lines) (h : ℕ) (r : Rows) : Type 0 where
   pub fits : RowsFit r h
-  pub same : (y : ℤ) → r.first + r.step * clampTo r.count y ≡ row_of l h y
+  pub same : (y : ℤ) → r.first + r.step * clamp_to r.count y ≡ row_of l h y
 
 -- the sample that (x, y) reads, 0 in an empty plane
-unfoldable pub rowsSample : Rows → ℕ → ℕ → List ℕ → ℤ → ℤ → ℕ
-rowsSample r w h samples x y =
-    cond (eqb w 0 || eqb h 0) 0 (viewRead samples w r.first r.step r.count x y)
+unfoldable pub rows_sample : Rows → ℕ → ℕ → List ℕ → ℤ → ℤ → ℕ
+rows_sample r w h samples x y =
+    cond (eqb w 0 || eqb h 0) 0 (view_read samples w r.first r.step r.count x y)

@@ -3,16 +3,16 @@
 use Rattle.std.specs.Prelude.{◌≡◌, true, List, ◌++◌, ℕ, ◌+◌, ◌*◌, ◌/◌, ◌%◌, ◌≤◌, ◌<◌, get_or, length}
 use Rattle.combine_predictions.specs.declared.PredictionDirection.{PredictionDirection}
 use Rattle.combine_predictions.specs.declared.PredictionDirection.TheVariants.{Forward, Backward, Skipped}
-use Rattle.forming_predictions.specs.Refusals.{planeFits}
+use Rattle.forming_predictions.specs.Refusals.{plane_fits}
 use Rattle.forming_predictions.specs.declared.ReferencePlane.{ReferencePlane}
 use Rattle.forming_predictions.specs.Means.{rounded}
 use Rattle.inter_reconstruction.specs.declared.motion.FieldVectorPair.{FieldVectorPair}
 use Rattle.inter_reconstruction.specs.Frames.{PlaneReading}
-use Rattle.inter_reconstruction.specs.Macroblock.{fieldSample, rectangle}
+use Rattle.inter_reconstruction.specs.Macroblock.{field_sample, rectangle}
 
 -- a plane with its samples is in the domain
 abbrev pub PlaneFits : ReferencePlane → List ℕ → Type 0
-PlaneFits p samples = planeFits p.width p.height (length samples) ≡ true
+PlaneFits p samples = plane_fits p.width p.height (length samples) ≡ true
 
 -- a block at column x and row y that prediction takes, in a buffer of n bytes
 pub record BlockAt (x y w h n : ℕ) : Type 0 where
@@ -36,30 +36,30 @@ pub record HalvesAt (x line w h n : ℕ) : Type 0 where
   pub count : n ≡ w * h + w * h
 
 -- the lines of both fields
-unfoldable pub fieldHalves : PlaneReading → FieldVectorPair → ℕ → ℕ → ℕ → ℕ → List ℕ
-fieldHalves read p w h x line =
-    rectangle w h (fieldSample rounded read p.top) x line
-    ++ rectangle w h (fieldSample rounded read p.bottom) x line
+unfoldable pub field_halves : PlaneReading → FieldVectorPair → ℕ → ℕ → ℕ → ℕ → List ℕ
+field_halves read p w h x line =
+    rectangle w h (field_sample rounded read p.top) x line
+    ++ rectangle w h (field_sample rounded read p.bottom) x line
 
 -- row r of a frame, in two field blocks of h rows, one after the other
-abbrev pub fieldRow : ℕ → ℕ → ℕ
-fieldRow h r = r % 2 * h + r / 2
+abbrev pub field_row : ℕ → ℕ → ℕ
+field_row h r = r % 2 * h + r / 2
 
 -- sample k of the frame, in those blocks of w columns
-unfoldable pub interleavedCell : List ℕ → ℕ → ℕ → ℕ → ℕ
-interleavedCell halves w h k = get_or halves (fieldRow h (k / w) * w + k % w) 0
+unfoldable pub interleaved_cell : List ℕ → ℕ → ℕ → ℕ → ℕ
+interleaved_cell halves w h k = get_or halves (field_row h (k / w) * w + k % w) 0
 
 -- how many bytes of n the forward prediction has, where there is one direction alone
-abbrev pub forwardBytes : PredictionDirection → ℕ → ℕ
-forwardBytes Forward n = n
-forwardBytes Backward n = 0
-forwardBytes Skipped n = n
+abbrev pub forward_bytes : PredictionDirection → ℕ → ℕ
+forward_bytes Forward n = n
+forward_bytes Backward n = 0
+forward_bytes Skipped n = n
 
 -- the chrominance's sides, for all formats
 pub record ChromaSides (w h : ℕ) : Type 0 where
-  pub wide-lo : 8 ≤ w
+  pub wide_lo : 8 ≤ w
   pub wide : w ≤ 16
   pub eights : w % 8 ≡ 0
-  pub high-lo : 8 ≤ h
+  pub high_lo : 8 ≤ h
   pub high : h ≤ 16
   pub even : h % 2 ≡ 0

@@ -1,8 +1,8 @@
 -- What the functions that place ask. For private contracts alone.
 use Rattle.std.specs.Prelude.{◌≡◌, Bool, true, ◌&&◌, ℕ, ◌+◌, ◌*◌, ◌≤◌, eqb}
 use Rattle.forming_predictions.specs.declared.ReferencePlane.{ReferencePlane}
-use Rattle.inter_reconstruction.specs.Components.{ColourComponent, macroblockBytes}
-use Rattle.inter_reconstruction.specs.Placing.{pictureFits, wellFormed, cellInside}
+use Rattle.inter_reconstruction.specs.Components.{ColourComponent, macroblock_bytes}
+use Rattle.inter_reconstruction.specs.Placing.{picture_fits, well_formed, cell_inside}
 use Rattle.inter_reconstruction.specs.declared.frames.FrameBuffer.{FrameBuffer}
 
 -- a block of w columns and h rows, in n bytes, lies in a plane of `width` columns and of p samples, its first sample at column x and row y
@@ -16,10 +16,10 @@ pub record Room (x y w h width p n : ℕ) : Type 0 where
 
 -- nothing is refused
 pub record Placeable (p : FrameBuffer) (lengths : ColourComponent → ℕ) (bytes col row : ℕ) : Type 0 where
-  pub fits : pictureFits p lengths ≡ true
-  pub whole : wellFormed p ≡ true
-  pub cell : cellInside p.geometry col row ≡ true
-  pub count : bytes ≡ macroblockBytes p.geometry.chroma_format
+  pub fits : picture_fits p lengths ≡ true
+  pub whole : well_formed p ≡ true
+  pub cell : cell_inside p.geometry col row ≡ true
+  pub count : bytes ≡ macroblock_bytes p.geometry.chroma_format
 
-abbrev pub sidesAre : ReferencePlane → ℕ → ℕ → Bool
-sidesAre p w h = eqb p.width w && eqb p.height h
+abbrev pub sides_are : ReferencePlane → ℕ → ℕ → Bool
+sides_are p w h = eqb p.width w && eqb p.height h

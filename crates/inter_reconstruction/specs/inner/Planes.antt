@@ -1,14 +1,14 @@
 -- What the functions on all three planes ask, and what they give. For private contracts alone.
 use Rattle.std.specs.Prelude.{◌≡◌, not, List, ◌++◌, ℕ, ◌≤◌, eqb}
-use Rattle.combine_predictions.specs.Refusals.{wrongLength, cause, or_else}
+use Rattle.combine_predictions.specs.Refusals.{wrong_length, cause, or_else}
 use Rattle.combine_predictions.specs.declared.PredictionDirection.{PredictionDirection}
 use Rattle.forming_predictions.specs.Means.{rounded}
 use Rattle.pmv.specs.declared.kinds.ChromaFormat.{ChromaFormat}
-use Rattle.inter_reconstruction.specs.Components.{ColourComponent, luma, cb, cr, blockBytes, macroblockBytes}
-use Rattle.inter_reconstruction.specs.Frames.{Samples, PlaneReading, planeOf}
-use Rattle.inter_reconstruction.specs.Motion.{chromaMotion}
-use Rattle.inter_reconstruction.specs.Macroblock.{directionSample, usedSample, rectangle, part, macroblock}
-use Rattle.inter_reconstruction.specs.Refusals.{forwardMissing, backwardMissing, cellRefusal, geometryRefusal, planesRefusal}
+use Rattle.inter_reconstruction.specs.Components.{ColourComponent, luma, cb, cr, block_bytes, macroblock_bytes}
+use Rattle.inter_reconstruction.specs.Frames.{Samples, PlaneReading, plane_of}
+use Rattle.inter_reconstruction.specs.Motion.{chroma_motion}
+use Rattle.inter_reconstruction.specs.Macroblock.{direction_sample, used_sample, rectangle, part, macroblock}
+use Rattle.inter_reconstruction.specs.Refusals.{forward_missing, backward_missing, cell_refusal, geometry_refusal, planes_refusal}
 use Rattle.inter_reconstruction.specs.inner.Blocks.{PlaneFits}
 use Rattle.inter_reconstruction.specs.declared.frames.FrameGeometry.{FrameGeometry}
 use Rattle.inter_reconstruction.specs.declared.frames.ReferenceFrame.TheVariants.{Present}
@@ -18,62 +18,62 @@ use Rattle.inter_reconstruction.specs.declared.motion.Uses.{Uses}
 
 -- every plane of a frame is in the domain
 abbrev pub FrameFits : FrameBuffer → Samples → Type 0
-FrameFits b s = (c : ColourComponent) → PlaneFits (planeOf b c) (s c)
+FrameFits b s = (c : ColourComponent) → PlaneFits (plane_of b c) (s c)
 
 -- a cell that prediction takes, and an output of n bytes for it
 pub record CellFits (f : ChromaFormat) (col row n : ℕ) : Type 0 where
   pub column : col ≤ 1023
   pub line : row ≤ 1023
-  pub count : n ≡ macroblockBytes f
+  pub count : n ≡ macroblock_bytes f
 
 -- a cell that prediction takes, and three local blocks for it, of a, b and r bytes
 pub record BlocksFit (f : ChromaFormat) (col row a b r : ℕ) : Type 0 where
   pub column : col ≤ 1023
   pub line : row ≤ 1023
-  pub luminance : a ≡ blockBytes f luma
-  pub cbLength : b ≡ blockBytes f cb
-  pub crLength : r ≡ blockBytes f cr
+  pub luminance : a ≡ block_bytes f luma
+  pub cb_length : b ≡ block_bytes f cb
+  pub cr_length : r ≡ block_bytes f cr
 
 -- ---- one direction
 
 -- its motion, for each component
-abbrev pub motionOf : ChromaFormat → DirectionMotion → ColourComponent → DirectionMotion
-motionOf f d luma = d
-motionOf f d cb = chromaMotion f d
-motionOf f d cr = chromaMotion f d
+abbrev pub motion_of : ChromaFormat → DirectionMotion → ColourComponent → DirectionMotion
+motion_of f d luma = d
+motion_of f d cb = chroma_motion f d
+motion_of f d cr = chroma_motion f d
 
 -- its block of a component, and all three
-abbrev pub directedPart : ChromaFormat → (ColourComponent → PlaneReading) → DirectionMotion → ColourComponent → ℕ → ℕ → List ℕ
-directedPart f read d c col row = part f c (directionSample rounded (read c) (motionOf f d c)) col row
+abbrev pub directed_part : ChromaFormat → (ColourComponent → PlaneReading) → DirectionMotion → ColourComponent → ℕ → ℕ → List ℕ
+directed_part f read d c col row = part f c (direction_sample rounded (read c) (motion_of f d c)) col row
 
 abbrev pub directed : ChromaFormat → (ColourComponent → PlaneReading) → DirectionMotion → ℕ → ℕ → List ℕ
-directed f read d col row = macroblock f (λ (c : ColourComponent). directionSample rounded (read c) (motionOf f d c)) col row
+directed f read d col row = macroblock f (λ (c : ColourComponent). direction_sample rounded (read c) (motion_of f d c)) col row
 
 -- the refusal of its absence
-abbrev pub missingIn : PredictionDirection → ℕ
-missingIn PredictionDirection.Forward = forwardMissing
-missingIn PredictionDirection.Backward = backwardMissing
-missingIn PredictionDirection.Skipped = forwardMissing
+abbrev pub missing_in : PredictionDirection → ℕ
+missing_in PredictionDirection.Forward = forward_missing
+missing_in PredictionDirection.Backward = backward_missing
+missing_in PredictionDirection.Skipped = forward_missing
 
 -- ---- both directions
 
 -- both chrominance components
-unfoldable pub chromaBlocks : PlaneReading → PlaneReading → PlaneReading → PlaneReading → Uses → ℕ → ℕ → ℕ → ℕ → List ℕ
-chromaBlocks fb fr bb br u w h x y = rectangle w h (usedSample rounded fb bb u) x y ++ rectangle w h (usedSample rounded fr br u) x y
+unfoldable pub chroma_blocks : PlaneReading → PlaneReading → PlaneReading → PlaneReading → Uses → ℕ → ℕ → ℕ → ℕ → List ℕ
+chroma_blocks fb fr bb br u w h x y = rectangle w h (used_sample rounded fb bb u) x y ++ rectangle w h (used_sample rounded fr br u) x y
 
 -- what is refused of one reference that is there, and of two
-abbrev pub frameRefusal : FrameGeometry → FrameBuffer → (ColourComponent → ℕ) → ℕ
-frameRefusal dest b n = or_else (geometryRefusal dest (Present b)) (planesRefusal (Present b) n)
+abbrev pub frame_refusal : FrameGeometry → FrameBuffer → (ColourComponent → ℕ) → ℕ
+frame_refusal dest b n = or_else (geometry_refusal dest (Present b)) (planes_refusal (Present b) n)
 
-abbrev pub framesRefusal : FrameGeometry → FrameBuffer → (ColourComponent → ℕ) → FrameBuffer → (ColourComponent → ℕ) → ℕ
-framesRefusal dest b n q k =
-    or_else (geometryRefusal dest (Present b))
-    (or_else (geometryRefusal dest (Present q))
-    (or_else (planesRefusal (Present b) n)
-    (planesRefusal (Present q) k)))
+abbrev pub frames_refusal : FrameGeometry → FrameBuffer → (ColourComponent → ℕ) → FrameBuffer → (ColourComponent → ℕ) → ℕ
+frames_refusal dest b n q k =
+    or_else (geometry_refusal dest (Present b))
+    (or_else (geometry_refusal dest (Present q))
+    (or_else (planes_refusal (Present b) n)
+    (planes_refusal (Present q) k)))
 
 -- ---- the destination
 
 -- what is refused before the references are looked at
-abbrev pub destinationRefusal : FrameGeometry → ℕ → ℕ → ℕ → ℕ
-destinationRefusal dest out col row = or_else (cellRefusal col row) (cause (not (eqb out (macroblockBytes dest.chroma_format))) wrongLength)
+abbrev pub destination_refusal : FrameGeometry → ℕ → ℕ → ℕ → ℕ
+destination_refusal dest out col row = or_else (cell_refusal col row) (cause (not (eqb out (macroblock_bytes dest.chroma_format))) wrong_length)

@@ -4,7 +4,7 @@
 -- absent type beside it.
 use Rattle.std.specs.Prelude.{Bool, true, false, not, ◌&&◌, ◌||◌, cond, List, [], ◌∷◌, ℕ, ◌+◌, ◌*◌, ◌/◌, ◌%◌, eqb, ltb, ℤ, pos, get_or}
 use Rattle.std.specs.Int.Bits.{bit_and}
-use Rattle.pmv.specs.Kinds.{typeNumber, isFramePicture}
+use Rattle.pmv.specs.Kinds.{type_number, is_frame_picture}
 use Rattle.pmv.specs.declared.kinds.PredictionType.{PredictionType}
 use Rattle.pmv.specs.declared.kinds.PredictionType.TheVariants.{FieldBased}
 use Rattle.pmv.specs.declared.kinds.MotionType.{MotionType}
@@ -30,35 +30,35 @@ outcomes =
     ∷ []
 
 -- a flag, to be counted with
-abbrev pub flagNumber : Bool → ℕ
-flagNumber false = 0
-flagNumber true = 1
+abbrev pub flag_number : Bool → ℕ
+flag_number false = 0
+flag_number true = 1
 
-abbrev pub tableRow : Bool → PredictionType → Bool → Bool → Bool → ℕ
-tableRow p t f b i = get_or outcomes ((flagNumber p * 32 + typeNumber t * 8) + (flagNumber f * 4 + flagNumber b * 2 + flagNumber i)) 0
+abbrev pub table_row : Bool → PredictionType → Bool → Bool → Bool → ℕ
+table_row p t f b i = get_or outcomes ((flag_number p * 32 + type_number t * 8) + (flag_number f * 4 + flag_number b * 2 + flag_number i)) 0
 
 -- ---- beside it
-abbrev pub typeOrAny : MotionType → PredictionType
-typeOrAny Absent = FieldBased
-typeOrAny (Present t) = t
+abbrev pub type_or_any : MotionType → PredictionType
+type_or_any Absent = FieldBased
+type_or_any (Present t) = t
 
-abbrev pub isAbsent : MotionType → Bool
-isAbsent Absent = true
-isAbsent (Present t) = false
+abbrev pub is_absent : MotionType → Bool
+is_absent Absent = true
+is_absent (Present t) = false
 
 -- frame picture, type, forward, backward, intra, concealment
-unfoldable pub rowFor : Bool → MotionType → Bool → Bool → Bool → Bool → ℕ
-rowFor frame type f b i c =
-    cond ((c && i) && not (f || b)) 1 (cond (isAbsent type && not i) 192 (tableRow frame (typeOrAny type) f b i))
+unfoldable pub row_for : Bool → MotionType → Bool → Bool → Bool → Bool → ℕ
+row_for frame type f b i c =
+    cond ((c && i) && not (f || b)) 1 (cond (is_absent type && not i) 192 (table_row frame (type_or_any type) f b i))
 
-abbrev pub decidedRow : PmvUpdateContext → ℕ
-decidedRow x =
-    rowFor (isFramePicture x.picture_structure) x.prediction_type x.macroblock_motion_forward
+abbrev pub decided_row : PmvUpdateContext → ℕ
+decided_row x =
+    row_for (is_frame_picture x.picture_structure) x.prediction_type x.macroblock_motion_forward
     x.macroblock_motion_backward x.macroblock_intra x.concealment_motion_vectors
 
 -- ---- what a row stands for
-unfoldable pub outcomeOf : ℕ → PmvUpdateOutcome
-outcomeOf k =
+unfoldable pub outcome_of : ℕ → PmvUpdateOutcome
+outcome_of k =
     cond (eqb k 0) O.IntraConcealmentCopyForwardFirst
     (cond (eqb k 1) O.IntraResetAll
     (cond (eqb k 2) O.NonIntraCopyBoth
@@ -67,7 +67,7 @@ outcomeOf k =
     (cond (eqb k 5) O.NonIntraZeroMotionReset (cond (eqb k 6) O.NoUpdate O.DualPrimeCopyForward))))))
 
 unfoldable pub answer_of : ℕ → Updated
-answer_of row = cond (ltb row 128) (Outcome (outcomeOf (row / 8 % 8))) (Refused (row / 8 % 16))
+answer_of row = cond (ltb row 128) (Outcome (outcome_of (row / 8 % 8))) (Refused (row / 8 % 16))
 
 -- and does: whether it has a bit
 abbrev pub has : ℕ → ℕ → Bool
@@ -86,5 +86,5 @@ written zero f b l =
     ∷ cond zero (pos 0) (cond b (get_or l 3 (pos 0)) (get_or l 7 (pos 0)))
     ∷ []
 
-abbrev pub carriedOut : ℕ → Pmv → Pmv
-carriedOut row pmv = record { values = written (has row 4) (has row 1) (has row 2) pmv.values }
+abbrev pub carried_out : ℕ → Pmv → Pmv
+carried_out row pmv = record { values = written (has row 4) (has row 1) (has row 2) pmv.values }

@@ -1,7 +1,7 @@
 -- Where all numbers are known, the number and the buffer are those of the layer's call on what the numbers mean.
 -- Assumes nothing.
 use mir.Facts.{to_z-of_z}
-use Rattle.inter_reconstruction.proofs.Checks.{answer-number}
+use Rattle.inter_reconstruction.proofs.Checks.{answer_number}
 use Rattle.entry_points.proofs.prediction.fozdrik_predict_frame_macroblock.Goals as goal
 
 pub returns : goal.returns
@@ -11,6 +11,6 @@ returns c =
     let b = rw (to_z-of_z r.backward_horizontal, to_z-of_z r.backward_vertical) at c.frame_direction_of-2.ensures in
     let p = c.predict_frame_macroblock_planes.ensures in
     record {
-      number = rw (← c.if-not-frame_known.ensures, c.number_of.ensures, ← c.geometry_of.ensures, ← c.reference_of.ensures, ← c.reference_of-2.ensures, ← f, ← b, p.answer, answer-number);
+      number = rw (← c.if-not-frame_known.ensures, c.number_of.ensures, ← c.geometry_of.ensures, ← c.reference_of.ensures, ← c.reference_of-2.ensures, ← f, ← b, p.answer, answer_number);
       buffer = rw (c.number_of.ensures, ← c.geometry_of.ensures, ← c.reference_of.ensures, ← c.reference_of-2.ensures, ← f, ← b) p.buffer;
     }

@@ -2,11 +2,11 @@
 -- Assumes nothing.
 use Rattle.std.proofs.Common.{◌∙◌, w32}
 use Rattle.laws.proofs.Bits.{back}
-use Rattle.entry_points.specs.Layout.{predictorsOf}
+use Rattle.entry_points.specs.Layout.{predictors_of}
 use Rattle.entry_points.proofs.vectors.load_predictors.Goals as goal
 
 pub returns : goal.returns
-unfolding predictorsOf
+unfolding predictors_of
 returns c =
     rw (
       back w32 _ c.load.type_inv ∙ c.load.ensures,

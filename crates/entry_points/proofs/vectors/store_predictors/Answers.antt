@@ -2,7 +2,7 @@
 -- Assumes nothing.
 use Rattle.std.proofs.Common.{◌∙◌, get_or, rules, pos, w32}
 use Rattle.laws.proofs.Bits.{back}
-use Rattle.entry_points.proofs.Words.{four-length, halves_written, eight-bytes}
+use Rattle.entry_points.proofs.Words.{four_length, halves_written, eight_bytes}
 use Rattle.entry_points.proofs.vectors.store_predictors.Goals as goal
 
 pub returns : goal.returns
@@ -21,5 +21,5 @@ returns c =
       back w32 (get_or l 6 (pos 0)) (search rules),
       back w32 (get_or l 7 (pos 0)) (search rules),
     ) at c.store_four-2.ensures)
-    (four-length _ _ _ _) (four-length _ _ _ _) c.requires
-    ∙ eight-bytes l (search rules)
+    (four_length _ _ _ _) (four_length _ _ _ _) c.requires
+    ∙ eight_bytes l (search rules)

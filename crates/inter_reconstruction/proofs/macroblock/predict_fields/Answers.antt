@@ -1,17 +1,17 @@
 -- The front of the local array has both fields' lines, and interleaved they are the rows of the frame.
 -- Assumes nothing.
 use Rattle.std.proofs.Common.{◌∙◌, ap, length, drop, ◌*◌}
-use Rattle.inter_reconstruction.specs.Frames.{readPlane}
-use Rattle.inter_reconstruction.proofs.Begun.{blank, front-is}
-use Rattle.inter_reconstruction.proofs.Rectangles.{halves-length, interleaved-is}
+use Rattle.inter_reconstruction.specs.Frames.{read_plane}
+use Rattle.inter_reconstruction.proofs.Begun.{blank, front_is}
+use Rattle.inter_reconstruction.proofs.Rectangles.{halves_length, interleaved_is}
 use Rattle.inter_reconstruction.proofs.macroblock.predict_fields.Goals as goal
 
 pub returns : goal.returns
 returns c =
     let a = c.args in
     let n = a.width * a.height in
-    let read = readPlane a.plane a.samples.now in
-    let long = ap length c.predict_halves.ensures ∙ halves-length read a.pair a.width a.height a.x a.y c.requires.2 in
-    let e = front-is n c.predict_halves.new.out (drop n (blank 256)) long ∙ c.predict_halves.ensures in
+    let read = read_plane a.plane a.samples.now in
+    let long = ap length c.predict_halves.ensures ∙ halves_length read a.pair a.width a.height a.x a.y c.requires.2 in
+    let e = front_is n c.predict_halves.new.out (drop n (blank 256)) long ∙ c.predict_halves.ensures in
     (rw e at c.interleave.ensures)
-    ∙ interleaved-is read a.pair a.width a.height a.x a.y c.requires.2 c.requires.1.some
+    ∙ interleaved_is read a.pair a.width a.height a.x a.y c.requires.2 c.requires.1.some

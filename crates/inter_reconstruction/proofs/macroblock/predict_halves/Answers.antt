@@ -5,51 +5,51 @@ use native.Mathlib.Nat.{zero-mul, one-mul, zero-add}
 use lib.ListN.{get_or-append}
 use lib.Seq.{get_or-append-add}
 use Rattle.laws.specs.Tabulate.{tabulate}
-use Rattle.laws.proofs.Rows.{rows_none, rows-part, rows_step, rows_all}
-use Rattle.laws.proofs.Tabulated.{getD-tab, tab-self}
+use Rattle.laws.proofs.Rows.{rows_none, rows_part, rows_step, rows_all}
+use Rattle.laws.proofs.Tabulated.{get_or_tab, tab_self}
 use Rattle.forming_predictions.specs.Means.{rounded}
-use Rattle.inter_reconstruction.specs.Motion.{fieldVectorOf}
-use Rattle.inter_reconstruction.specs.Macroblock.{columnAt, row_at, fieldSample, rectangle}
+use Rattle.inter_reconstruction.specs.Motion.{field_vector_of}
+use Rattle.inter_reconstruction.specs.Macroblock.{column_at, row_at, field_sample, rectangle}
 use Rattle.inter_reconstruction.specs.declared.motion.FieldVector.{FieldVector}
 use Rattle.inter_reconstruction.specs.declared.motion.FieldVectorPair.{FieldVectorPair}
-use Rattle.inter_reconstruction.specs.Frames.{PlaneReading, readPlane}
-use Rattle.inter_reconstruction.specs.inner.Blocks.{fieldHalves}
-use Rattle.inter_reconstruction.proofs.Rectangles.{rectangle-length}
+use Rattle.inter_reconstruction.specs.Frames.{PlaneReading, read_plane}
+use Rattle.inter_reconstruction.specs.inner.Blocks.{field_halves}
+use Rattle.inter_reconstruction.proofs.Rectangles.{rectangle_length}
 use Rattle.inter_reconstruction.proofs.macroblock.predict_halves.Goals as goal
 
 -- both blocks, cell by cell
 module _ (read : PlaneReading) (pair : FieldVectorPair) (w h x line : ℕ) where
   abbrev block : FieldVector → List ℕ
-  block u = rectangle w h (fieldSample rounded read u) x line
+  block u = rectangle w h (field_sample rounded read u) x line
 
-  in_block : (u : FieldVector) (k : ℕ) → k < w * h → fieldSample rounded read u (columnAt w x k) (row_at w line k) ≡ get_or (block u) k 0
+  in_block : (u : FieldVector) (k : ℕ) → k < w * h → field_sample rounded read u (column_at w x k) (row_at w line k) ≡ get_or (block u) k 0
   unfolding rectangle
-  in_block u k l = sym (getD-tab (w * h) _ k 0 l)
+  in_block u k l = sym (get_or_tab (w * h) _ k 0 l)
 
   in_halves : (f k : ℕ) → f < 2 → k < w * h
-      → fieldSample rounded read (fieldVectorOf pair f) (columnAt w x k) (row_at w line k) ≡ get_or (fieldHalves read pair w h x line) (f * (w * h) + k) 0
-  unfolding fieldHalves
+      → field_sample rounded read (field_vector_of pair f) (column_at w x k) (row_at w line k) ≡ get_or (field_halves read pair w h x line) (f * (w * h) + k) 0
+  unfolding field_halves
   in_halves zero k p l =
       rw (zero-mul (w * h), zero-add k)
-      (in_block pair.top k l ∙ sym (get_or-append (block pair.top) (block pair.bottom) 0 k (omega (arith, rectangle-length w h (fieldSample rounded read pair.top) x line))))
+      (in_block pair.top k l ∙ sym (get_or-append (block pair.top) (block pair.bottom) 0 k (omega (arith, rectangle_length w h (field_sample rounded read pair.top) x line))))
   in_halves (suc zero) k p l =
-      rw (one-mul (w * h), ← rectangle-length w h (fieldSample rounded read pair.top) x line)
+      rw (one-mul (w * h), ← rectangle_length w h (field_sample rounded read pair.top) x line)
       (in_block pair.bottom k l ∙ sym (get_or-append-add (block pair.top) (block pair.bottom) k 0))
   in_halves (suc (suc f)) k p l = absurd (omega arith)
 
   -- one block, as a part of m bytes
   as-part : (u : FieldVector) (m : ℕ) (ys : List ℕ) → m ≡ w * h → ys ≡ block u
-      → ys ≡ tabulate m (λ (k : ℕ). fieldSample rounded read u (columnAt w x k) (row_at w line k))
+      → ys ≡ tabulate m (λ (k : ℕ). field_sample rounded read u (column_at w x k) (row_at w line k))
   unfolding rectangle
   as-part u m ys e p = rw e p
 
-  whole : tabulate (w * h * 2) (λ (k : ℕ). get_or (fieldHalves read pair w h x line) k 0) ≡ fieldHalves read pair w h x line
-  unfolding fieldHalves
+  whole : tabulate (w * h * 2) (λ (k : ℕ). get_or (field_halves read pair w h x line) k 0) ≡ field_halves read pair w h x line
+  unfolding field_halves
   whole =
       let n : length (block pair.top ++ block pair.bottom) ≡ w * h * 2
       = length-append (block pair.top) (block pair.bottom)
-      ∙ omega (arith, rectangle-length w h (fieldSample rounded read pair.top) x line, rectangle-length w h (fieldSample rounded read pair.bottom) x line) in
-      rw (← n) (tab-self (block pair.top ++ block pair.bottom))
+      ∙ omega (arith, rectangle_length w h (field_sample rounded read pair.top) x line, rectangle_length w h (field_sample rounded read pair.bottom) x line) in
+      rw (← n) (tab_self (block pair.top ++ block pair.bottom))
 
 pub loop-f-init : goal.loop-f-init
 loop-f-init c = rows_none _ _ _ _ (omega (arith, c.requires.1.count))
@@ -58,13 +58,13 @@ pub loop-f-preserved : goal.loop-f-preserved
 loop-f-preserved c =
     let a = c.args in
     let less : c.loop-f.f < 2 = omega (arith, c.loop-f-test.true) in
-    let read = readPlane a.plane a.samples.now in
+    let read = read_plane a.plane a.samples.now in
     rows_step c.loop-f.invariant less
-    (as-part read a.pair a.width a.height a.x a.line (fieldVectorOf a.pair c.loop-f.f) _ _ (rows-part c.loop-f.invariant less) (rw c.vector_of.ensures at c.predict_lines.ensures))
+    (as-part read a.pair a.width a.height a.x a.line (field_vector_of a.pair c.loop-f.f) _ _ (rows_part c.loop-f.invariant less) (rw c.vector_of.ensures at c.predict_lines.ensures))
     (λ k h. in_halves read a.pair a.width a.height a.x a.line c.loop-f.f k less h)
 
 pub returns : goal.returns
 returns c =
     let a = c.args in
     rows_all c.loop-f.invariant (omega (arith, c.loop-f-test.false))
-    ∙ whole (readPlane a.plane a.samples.now) a.pair a.width a.height a.x a.line
+    ∙ whole (read_plane a.plane a.samples.now) a.pair a.width a.height a.x a.line

@@ -1,13 +1,13 @@
 -- After f turns the first f fields' lines are in place.
 use Rattle.std.proofs.Common.{ℕ, ◌*◌, ◌-◌, get_or}
 use Rattle.laws.proofs.Rows.{RowsFilled}
-use Rattle.inter_reconstruction.specs.Frames.{readPlane}
-use Rattle.inter_reconstruction.specs.inner.Blocks.{fieldHalves}
+use Rattle.inter_reconstruction.specs.Frames.{read_plane}
+use Rattle.inter_reconstruction.specs.inner.Blocks.{field_halves}
 use Rattle.inter_reconstruction.proofs.macroblock.predict_halves.Given as goal
 
 abbrev pub invariant-loop-f : goal.invariant-loop-f
 invariant-loop-f l =
-    RowsFilled (λ (k : ℕ). get_or (fieldHalves (readPlane l.plane l.samples) l.pair l.width l.height l.x l.line) k 0) l.initial.out (l.width * l.height) 2 l.f l.out
+    RowsFilled (λ (k : ℕ). get_or (field_halves (read_plane l.plane l.samples) l.pair l.width l.height l.x l.line) k 0) l.initial.out (l.width * l.height) 2 l.f l.out
 
 abbrev pub decreases-loop-f : goal.decreases-loop-f
 decreases-loop-f l = 2 - l.f

@@ -2,7 +2,7 @@
 -- Assumes nothing.
 use Rattle.std.proofs.Common.{rules, arith, ◌∙◌, length, FitsSigned, w32}
 use Rattle.std.proofs.lemmas.Int.{to_z_pos, to_z-of_z}
-use Rattle.inter_reconstruction.proofs.Rectangles.{block-accepted, block_written, lines_are}
+use Rattle.inter_reconstruction.proofs.Rectangles.{block_accepted, block_written, lines_are}
 use Rattle.inter_reconstruction.proofs.macroblock.predict_lines.Goals as goal
 
 pub returns : goal.returns
@@ -14,6 +14,6 @@ returns c =
     let x = to_z_pos w32 a.x (omega (arith, b.left)) in
     let y = to_z_pos w32 a.line (omega (arith, b.top)) in
     block_written _ _ _ _ _ (simp (x, y) at c.predict_field_block.ensures.answer)
-    (block-accepted a.plane a.samples.now a.x a.line a.width a.height (length a.out.now) c.requires.0 b)
+    (block_accepted a.plane a.samples.now a.x a.line a.width a.height (length a.out.now) c.requires.0 b)
     (simp (x, y, to_z-of_z w32 a.u.vector.horizontal h, to_z-of_z w32 a.u.vector.vertical v) at c.predict_field_block.ensures.buffer)
     ∙ lines_are a.plane a.samples.now a.u a.width a.height a.x a.line

@@ -1,7 +1,7 @@
 -- The three calls write the output from its front to its end.
 -- Assumes nothing.
 use Rattle.std.proofs.Common.{◌∙◌, ap, refl, length, ◌+◌, ◌++◌, append_assoc, arith}
-use Rattle.inter_reconstruction.proofs.Begun.{begun_first, begun-part, begun-rest, append-count}
+use Rattle.inter_reconstruction.proofs.Begun.{begun_first, begun_part, begun_rest, append_count}
 use Rattle.inter_reconstruction.proofs.macroblock.store_blocks.Goals as goal
 
 pub returns : goal.returns
@@ -14,9 +14,9 @@ returns c =
     let n1 = ap length c.store_chosen.ensures in
     let n2 = ap length c.store_chosen-2.ensures in
     let n3 = ap length c.store_chosen-3.ensures in
-    begun-rest (a + m) third
-    (begun-part a m second (begun_first a first c.args.out.now n1 (omega (arith, c.requires))) n1 n2 (omega (arith, c.requires)))
-    (append-count first second a m (a + m) n1 n2 refl)
+    begun_rest (a + m) third
+    (begun_part a m second (begun_first a first c.args.out.now n1 (omega (arith, c.requires))) n1 n2 (omega (arith, c.requires)))
+    (append_count first second a m (a + m) n1 n2 refl)
     (omega (arith, n3, c.requires))
     ∙ append_assoc first second third
     ∙ (λ i. c.store_chosen.ensures i ++ (c.store_chosen-2.ensures i ++ c.store_chosen-3.ensures i))

@@ -2,11 +2,11 @@
 -- Assumes nothing.
 use Rattle.std.proofs.Common.{◌≡◌, sym, ◌∙◌, ◌+◌, ◌-◌, ◌*◌, ◌≤◌, length, take, drop, arith, eq-eqb}
 use Rattle.laws.proofs.Parts.{part_length}
-use Rattle.inter_reconstruction.proofs.Stored.{row_inside, row-source, placed-none, placed_row}
+use Rattle.inter_reconstruction.proofs.Stored.{row_inside, row_source, placed_none, placed_row}
 use Rattle.inter_reconstruction.proofs.placing.place_block.Goals as goal
 
 pub loop-r-init : goal.loop-r-init
-loop-r-init c = record { within = omega arith; rows = placed-none _ _ _ _ _ _ }
+loop-r-init c = record { within = omega arith; rows = placed_none _ _ _ _ _ _ }
 
 pub loop-r-preserved : goal.loop-r-preserved
 loop-r-preserved c =
@@ -15,7 +15,7 @@ loop-r-preserved c =
     let t = c.loop-r-test.true in
     let i = r * a.block_width in
     let o = (a.y + r) * a.width + a.x in
-    let source : i + a.block_width ≤ length a.block.now = row-source c.requires r t in
+    let source : i + a.block_width ≤ length a.block.now = row_source c.requires r t in
     let inside : o + a.block_width ≤ length c.loop-r.plane = omega (arith, row_inside c.requires r t, c.loop-r.invariant.rows.long) in
     let same : length (take (o + a.block_width - o) (drop o c.loop-r.plane)) ≡ length (take (i + a.block_width - i) (drop i a.block.now)) =
     part_length c.loop-r.plane o (o + a.block_width) inside

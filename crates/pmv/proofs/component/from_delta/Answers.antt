@@ -6,29 +6,29 @@ use mir.Syntax.{w32}
 use mir.Val.{SFits}
 use mir.Facts.{to_z-of_z}
 use Rattle.laws.proofs.Bits.{widened}
-use Rattle.laws.proofs.Bounded.{Within, within-fits}
-use Rattle.pmv.specs.Component.{fromDelta, fromDeltaRefusal}
-use Rattle.pmv.proofs.Ranges.{range-fits, in-range-within}
+use Rattle.laws.proofs.Bounded.{Within, within_fits}
+use Rattle.pmv.specs.Component.{from_delta, from_delta_refusal}
+use Rattle.pmv.proofs.Ranges.{range_fits, in_range_within}
 use Rattle.pmv.proofs.component.from_delta.Goals as goal
 
 pub returns-then-not-in_range : goal.returns-then-not-in_range
-unfolding fromDeltaRefusal
+unfolding from_delta_refusal
 returns-then-not-in_range c = grind (arith, common_steps, widened)
 
 pub returns-then-not-in_range-2 : goal.returns-then-not-in_range-2
-unfolding fromDeltaRefusal
+unfolding from_delta_refusal
 returns-then-not-in_range-2 c = grind (arith, common_steps, to_z-of_z, widened)
 
 pub next_predictor-requires : goal.next_predictor-requires
 next_predictor-requires c =
-    let w : Within 4096 c.wrap-v.result = grind (arith, common_steps, to_z-of_z, in-range-within) in
-    let f : SFits w32 c.wrap-v.result = within-fits w (omega arith) in
+    let w : Within 4096 c.wrap-v.result = grind (arith, common_steps, to_z-of_z, in_range_within) in
+    let f : SFits w32 c.wrap-v.result = within_fits w (omega arith) in
     grind (arith, common_steps, to_z-of_z)
 
 pub returns : goal.returns
-unfolding fromDelta fromDeltaRefusal
+unfolding from_delta from_delta_refusal
 returns c =
-    let w : Within 4096 c.wrap-v.result = grind (arith, common_steps, to_z-of_z, in-range-within) in
-    let f : SFits w32 c.wrap-v.result = within-fits w (omega arith) in
-    let r : SFits w32 c.args.b.range = range-fits c.requires in
+    let w : Within 4096 c.wrap-v.result = grind (arith, common_steps, to_z-of_z, in_range_within) in
+    let f : SFits w32 c.wrap-v.result = within_fits w (omega arith) in
+    let r : SFits w32 c.args.b.range = range_fits c.requires in
     grind (arith, common_steps, to_z-of_z, widened)

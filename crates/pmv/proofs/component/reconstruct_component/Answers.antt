@@ -3,9 +3,9 @@
 use Rattle.std.proofs.Common.{arith}
 use Rattle.std.proofs.lemmas.Grind.{common_steps}
 use mir.Facts.{to_z-of_z}
-use Rattle.pmv.specs.Delta.{deltaRefusal}
+use Rattle.pmv.specs.Delta.{delta_refusal}
 use Rattle.pmv.proofs.component.reconstruct_component.Goals as goal
 
 pub scale_of-requires : goal.scale_of-requires
-unfolding deltaRefusal
+unfolding delta_refusal
 scale_of-requires c = grind (arith, common_steps, to_z-of_z)

@@ -1,11 +1,11 @@
 -- The rows agree with the rule.
 -- Assumes nothing.
 use Rattle.std.proofs.Common.{◌≡◌, ap, ◌∙◌, ℕ, length, rules}
-use Rattle.pmv.specs.Kinds.{isFramePicture}
+use Rattle.pmv.specs.Kinds.{is_frame_picture}
 use Rattle.pmv.specs.Update.{updated}
-use Rattle.pmv.specs.inner.Rows.{answer_of, carriedOut}
+use Rattle.pmv.specs.inner.Rows.{answer_of, carried_out}
 use Rattle.pmv.proofs.Rows.{answers, does}
-use Rattle.pmv.proofs.Answers.{updated-all}
+use Rattle.pmv.proofs.Answers.{updated_all}
 use Rattle.pmv.proofs.update.updated_predictors.Goals as goal
 
 pub returns : goal.returns
@@ -14,7 +14,7 @@ returns c =
     let p = c.args.pmv in
     let x = c.args.ctx in
     let eight : length p.values ≡ 8 = search rules in
-    let frame = isFramePicture x.picture_structure in
+    let frame = is_frame_picture x.picture_structure in
     let m = x.prediction_type in
     let f = x.macroblock_motion_forward in
     let b = x.macroblock_motion_backward in
@@ -22,6 +22,6 @@ returns c =
     let h = x.concealment_motion_vectors in
     let d = c.decide-row.ensures in
     let ea = c.answer_of.ensures ∙ ap answer_of d ∙ answers frame m f b t h in
-    let ep = c.carried_out.ensures ∙ ap (λ (k : ℕ). carriedOut k p) d ∙ does frame m f b t h p eight in
-    let (a, (n, v)) = updated-all _ p x (λ i. record { answer = ea i; pmv = ep i }) in
+    let ep = c.carried_out.ensures ∙ ap (λ (k : ℕ). carried_out k p) d ∙ does frame m f b t h p eight in
+    let (a, (n, v)) = updated_all _ p x (λ i. record { answer = ea i; pmv = ep i }) in
     record { update = a; number = n; value = v }

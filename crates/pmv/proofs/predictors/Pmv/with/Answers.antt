@@ -3,7 +3,7 @@
 use Rattle.std.proofs.Common.{ap, ◌∙◌, List, get_or, rules, ℤ, pos, w32}
 use mir.Facts.{to_z-of_z}
 use Rattle.laws.proofs.Bits.{back}
-use Rattle.pmv.proofs.Lists.{eight-set}
+use Rattle.pmv.proofs.Lists.{eight_set}
 use Rattle.pmv.proofs.predictors.Pmv.with.Goals as goal
 
 pub returns : goal.returns
@@ -12,7 +12,7 @@ returns c =
     let v = to_z-of_z c.ranges.value in
     let k = c.place_of-k.ensures.0 in
     ap (λ (x : List ℤ). record { values = x })
-    (eight-set l _ _ (search rules)
+    (eight_set l _ _ (search rules)
     (back w32 _ c.put.type_inv ∙ rw (v, back w32 (get_or l 0 (pos 0)) (search rules), k) at c.put.ensures)
     (back w32 _ c.put-2.type_inv ∙ rw (v, back w32 (get_or l 1 (pos 0)) (search rules), k) at c.put-2.ensures)
     (back w32 _ c.put-3.type_inv ∙ rw (v, back w32 (get_or l 2 (pos 0)) (search rules), k) at c.put-3.ensures)
