@@ -185,7 +185,7 @@ use Rattle.forming_predictions.specs.declared.Predicted.TheVariants as Block
         m.case(f"floor_half {z(c[1])} ≡ {z(c[2])}", f"half_flag {z(c[1])} ≡ {flag(c[3])}")
         if abs(int(c[1])) < 4:
             m.count += 1
-            m.parts.append(f"pub case{m.count} : IsSplit {z(c[1])} ({split})\nunfolding floor_half halfFlag\ncase{m.count} = (refl, refl)")
+            m.parts.append(f"pub case{m.count} : IsSplit {z(c[1])} ({split})\nunfolding floor_half half_flag\ncase{m.count} = (refl, refl)")
     for group, c, _ in selection(kind("3"), lambda x: tuple(x[1]), 1, 4):
         m.case(f"horizontal_half {patterns[int(c[3])]} ≡ {flag(c[1])}", f"vertical_half {patterns[int(c[3])]} ≡ {flag(c[2])}")
     for group, c, _ in selection(kind("4"), lambda x: x[1][1] if len(x[1][1]) < 3 else len(x[1][1]), 1, 30):

@@ -12,7 +12,7 @@ import re
 import sys
 
 HERE = os.path.dirname(os.path.realpath(__file__))
-WORD = re.compile(r"[^\s(){}\[\].;,@\"`«»:!=<>&*/|+?#]+")
+WORD = re.compile(r"[^\s(){}\[\].;,@\"`«»:!=<>&*/|+?#\\]+")
 QUOTED = re.compile(r'"(?:[^"\\\n]|\\.)*"')
 TICKED = re.compile(r"`[^`\n]*`")
 
@@ -61,8 +61,10 @@ def turned(path, text, camel, table):
         return by_lines(text, "--", camel, table, lambda code: words(code, table))
     if path.endswith(".rt"):
         return by_lines(text, "//", camel, table, lambda code: unquoted(code, camel))
-    if path.endswith((".edit", ".py")) or os.path.basename(path) == "survivors.txt":
+    if path.endswith(".edit") or os.path.basename(path) == "survivors.txt":
         return words(text, table)
+    if path.endswith(".py"):
+        return "".join(words(part, table) for part in re.split(r"(\\[nt])", text))
     if path.endswith(".md"):
         return prose(text, camel, table)
     return text

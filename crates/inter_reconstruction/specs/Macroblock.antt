@@ -24,7 +24,7 @@ field_sample m read u x line =
     formed m (read (field u.reference_field)) (pos x) (pos line) u.vector.horizontal u.vector.vertical
 
 -- one direction's prediction of the sample at column x and row y of a plane. Row y of a frame is line y / 2 of the field that y's parity names,
--- whose vector it goes by; which field is read is that vector's own choice. proofs/Rectangles.antt (interleaved-is) shows the scope's form
+-- whose vector it goes by; which field is read is that vector's own choice. proofs/Rectangles.antt (`interleaved_is`) shows the scope's form
 -- of it: two field blocks from line base / 2 on, interleaved.
 unfoldable pub direction_sample : Means → PlaneReading → DirectionMotion → ℕ → ℕ → ℕ
 direction_sample m read (Frame v) x y = formed m (read frame) (pos x) (pos y) v.horizontal v.vertical

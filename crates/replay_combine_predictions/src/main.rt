@@ -4,7 +4,6 @@
 use combine_predictions::{Averaged, PredictionDirection};
 use lists::Next;
 use std::io;
-use std::io::Read;
 use tally::Tally;
 
 /// A case that was read: whether the port agrees with the list, the place after the case, and whether the line was well formed.
@@ -174,11 +173,14 @@ fn walk(rt: &impl Print, s: &[u8]) -> io::Result<Tally> {
 
 /// Reads the list and goes through it.
 fn replay(rt: &(impl Alloc + Input + Print)) -> io::Result<()> {
-    let mut list = Vec::new(rt.alloc());
-    rt.reader().read_to_end(&mut list)?;
-    let t = walk(rt, list.as_slice())?;
-    tally::report(rt, t)?;
-    Ok(())
+    match tally::read(rt)? {
+        Some(list) => {
+            let t = walk(rt, list.as_slice())?;
+            let (_, written) = tally::report(rt, t);
+            written
+        }
+        None => Ok(()),
+    }
 }
 
 fn main(rt: HostRuntime) -> io::Result<()> {

@@ -6,7 +6,6 @@ use forming_predictions::{
 };
 use lists::Next;
 use std::io;
-use std::io::Read;
 use tally::Tally;
 
 /// A case that was read: whether the port agrees with the list, the place after the case, and whether the line was well formed.
@@ -635,11 +634,14 @@ fn walk(rt: &impl Print, s: &[u8], samples: &mut [u8]) -> io::Result<Tally> {
 
 /// Reads the list and goes through it.
 fn replay(rt: &(impl Alloc + Input + Print), samples: &mut [u8]) -> io::Result<()> {
-    let mut list = Vec::new(rt.alloc());
-    rt.reader().read_to_end(&mut list)?;
-    let t = walk(rt, list.as_slice(), samples)?;
-    tally::report(rt, t)?;
-    Ok(())
+    match tally::read(rt)? {
+        Some(list) => {
+            let t = walk(rt, list.as_slice(), samples)?;
+            let (_, written) = tally::report(rt, t);
+            written
+        }
+        None => Ok(()),
+    }
 }
 
 fn main(rt: HostRuntime) -> io::Result<()> {

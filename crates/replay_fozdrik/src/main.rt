@@ -5,7 +5,6 @@ use crate::line::Judged;
 use crate::planes::Planes;
 use lists::Next;
 use std::io;
-use std::io::Read;
 use tally::Tally;
 
 mod line;
@@ -218,11 +217,14 @@ fn replay(
     forward_samples: &mut [u8],
     backward_samples: &mut [u8],
 ) -> io::Result<()> {
-    let mut list = Vec::new(rt.alloc());
-    rt.reader().read_to_end(&mut list)?;
-    let t = walk(rt, list.as_slice(), forward_samples, backward_samples)?;
-    tally::report(rt, t)?;
-    Ok(())
+    match tally::read(rt)? {
+        Some(list) => {
+            let t = walk(rt, list.as_slice(), forward_samples, backward_samples)?;
+            let (_, written) = tally::report(rt, t);
+            written
+        }
+        None => Ok(()),
+    }
 }
 
 fn main(rt: HostRuntime) -> io::Result<()> {

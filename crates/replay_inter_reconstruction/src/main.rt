@@ -853,11 +853,14 @@ fn replay(
     forward_samples: &mut [u8],
     backward_samples: &mut [u8],
 ) -> io::Result<()> {
-    let mut list = Vec::new(rt.alloc());
-    rt.reader().read_to_end(&mut list)?;
-    let t = walk(rt, list.as_slice(), forward_samples, backward_samples)?;
-    tally::report(rt, t)?;
-    Ok(())
+    match tally::read(rt)? {
+        Some(list) => {
+            let t = walk(rt, list.as_slice(), forward_samples, backward_samples)?;
+            let (_, written) = tally::report(rt, t);
+            written
+        }
+        None => Ok(()),
+    }
 }
 
 fn main(rt: HostRuntime) -> io::Result<()> {

@@ -415,11 +415,14 @@ fn replay(
     cb: &mut [u8],
     cr: &mut [u8],
 ) -> io::Result<()> {
-    let mut list = Vec::new(rt.alloc());
-    rt.reader().read_to_end(&mut list)?;
-    let t = walk(rt, list.as_slice(), y, cb, cr)?;
-    tally::report(rt, t)?;
-    Ok(())
+    match tally::read(rt)? {
+        Some(list) => {
+            let t = walk(rt, list.as_slice(), y, cb, cr)?;
+            let (_, written) = tally::report(rt, t);
+            written
+        }
+        None => Ok(()),
+    }
 }
 
 fn main(rt: HostRuntime) -> io::Result<()> {

@@ -1105,11 +1105,14 @@ fn walk(rt: &impl Print, s: &[u8]) -> io::Result<Tally> {
 
 /// Reads the list and goes through it.
 fn replay(rt: &(impl Alloc + Input + Print)) -> io::Result<()> {
-    let mut list = Vec::new(rt.alloc());
-    rt.reader().read_to_end(&mut list)?;
-    let t = walk(rt, list.as_slice())?;
-    tally::report(rt, t)?;
-    Ok(())
+    match tally::read(rt)? {
+        Some(list) => {
+            let t = walk(rt, list.as_slice())?;
+            let (_, written) = tally::report(rt, t);
+            written
+        }
+        None => Ok(()),
+    }
 }
 
 fn main(rt: HostRuntime) -> io::Result<()> {

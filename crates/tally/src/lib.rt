@@ -1,10 +1,11 @@
 //! The count that every replay keeps, and its report.
 #![tactic(auto)]
 
-ghost use Rattle.std.specs.Prelude.{◌≡◌, IfOk};
+ghost use Rattle.std.specs.Prelude.{◌≡◌, ◌<◌, IfOk, IfSome, vec_len};
 ghost use Rattle.tally.specs.Counts.{none, after_comment, after_case, at_end};
 
 use std::io;
+use std::io::Read;
 
 /// The place in the list, the lines so far (comments and cases: a list has no empty line), the cases, those that agree, whether to go
 /// on, and whether the list is well formed so far.
@@ -100,17 +101,38 @@ pub fn stopped(t: Tally, good: bool) -> Tally
     }
 }
 
-/// Writes the counts, and the first line that is not well formed, where there is one. Answers whether there was none.
-pub fn report(rt: &impl Print, t: Tally) -> io::Result<bool>
-    ensures { IfOk result (λ good. good ≡ t.good) }
-{
+fn write_report(rt: &impl Print, t: Tally) -> io::Result<()> {
     let cases = t.cases;
     let agree = t.agree;
     println!(rt; "{cases} cases, {agree} agree")?;
     if t.good {
-        return Ok(true);
+        return Ok(());
     }
     let line = t.lines.wrapping_add(1);
-    println!(rt; "not well formed: line {line}")?;
-    Ok(false)
+    println!(rt; "not well formed: line {line}")
+}
+
+/// Writes the counts, and the first line that is not well formed, where there is one. Answers whether there was none, and whether the
+/// report could be written.
+pub fn report(rt: &impl Print, t: Tally) -> (bool, io::Result<()>)
+    ensures { result.0 ≡ t.good }
+{
+    let written = write_report(rt, t);
+    (t.good, written)
+}
+
+/// A list is shorter than this.
+const TOO_LONG: usize = 1048576;
+
+/// The list from standard input. One that is too long is said to be, and not given.
+pub fn read<R: Alloc + Input + Print>(rt: &R) -> io::Result<Option<Vec<u8, R::A>>>
+    ensures { IfOk result (λ read. IfSome read (λ list. vec_len list < 1048576)) }
+{
+    let mut list = Vec::new(rt.alloc());
+    rt.reader().take(TOO_LONG as u64).read_to_end(&mut list)?;
+    if list.len() < TOO_LONG {
+        return Ok(Some(list));
+    }
+    println!(rt; "the list is too long")?;
+    Ok(None)
 }
