@@ -600,7 +600,7 @@ def macroblocks(repository):
         answer = int(rest[2])
         said = f"prediction_answer ({refusal}) (accepted {u})"
         used = "none" if answer else f"some {USED[rest[3]]}"
-        wanted = u.replace("Uses (", "Wanted (", 1).replace(" (is_present", ") (is_present", 1)
+        wanted = u.replace("_uses (", "_wanted (", 1).replace(" (is_present", ") (is_present", 1)
         m.case(f"prediction_number ({said}) ≡ {answer}", f"prediction_directions ({said}) ≡ {used}", f"remaining ({wanted[1:-1]} ≡ {u}")
     several = selection([x for x in calls.calls if x[0] == "u"], lambda x: tuple(x[1][1:14]) + tuple(tail(x[1])[1:3]), 1, 150)
     several += selection([x for x in calls.calls if x[0] == "v"], lambda x: 0, len(calls.calls), len(calls.calls))
@@ -713,15 +713,15 @@ use Rattle.inter_reconstruction.specs.declared.motion.FieldDirection.TheVariants
         short = KINDS[name][1]
         for value, c_value in zip(KINDS[name][0], values):
             n = numbers[c_name][c_value]
-            equations = [] if name == "FieldParity" else [f"Kinds.{short}Number {name}.{value} ≡ {n}"]
+            equations = [] if name == "FieldParity" else [f"Kinds.{short}_number {name}.{value} ≡ {n}"]
             if name != "Component":
                 some = f"(Option{name}.Some {name}.{value})"
-                equations += [f"Kinds.{short}From {n} ≡ {some}", f"Kinds.{short}Known {some} ≡ true", f"Kinds.{short}Or {some} ≡ {name}.{value}"]
+                equations += [f"Kinds.{short}_from {n} ≡ {some}", f"Kinds.{short}_known {some} ≡ true", f"Kinds.{short}_or {some} ≡ {name}.{value}"]
             m.case(*equations)
         if name != "Component":
             for n in (len(values), len(values) + 1, 2**32 - 1):
-                m.case(f"Kinds.{short}From {n} ≡ Option{name}.None")
-            m.case(f"Kinds.{short}Known Option{name}.None ≡ false")
+                m.case(f"Kinds.{short}_from {n} ≡ Option{name}.None")
+            m.case(f"Kinds.{short}_known Option{name}.None ≡ false")
     for n, value in ((numbers["flag"]["NO"], "false"), (numbers["flag"]["YES"], "true")):
         some = f"(OptionFlag.Some {value})"
         m.case(

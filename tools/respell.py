@@ -3,7 +3,7 @@
 
 usage: python3 tools/respell.py [FOLDER]     (the top of a checkout; else the one that this file lies in)
 
-names.tsv, beside this file, has a row for each name: old, a tab, new. Run it once, on what /opt/rattle/port/port.py wrote: a name that one row makes may be
+names.tsv, beside this file, has a row for each name: old, a tab, new. Run it once, on what the kit's port.py wrote: a name that one row makes may be
 what another row turns. Whole words turn: in .antt files everywhere, but a name with a dash in a comment only between backticks, since it may be
 a word there; in .rt and .edit files, in the documents and in mutate/ likewise. Quoted text of .rt files stays. Names that rt makes for goals have no row.
 """
