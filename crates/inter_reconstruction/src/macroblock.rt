@@ -429,7 +429,12 @@ fn predict_chroma(
 )
     requires plane_fits { PlaneFits forward_cb_plane forward_cb.now × PlaneFits forward_cr_plane forward_cr.now × PlaneFits backward_cb_plane backward_cb.now × PlaneFits backward_cr_plane backward_cr.now }
     requires halves_at { HalvesAt x y width height (length out.old) × FieldRows y height }
-    ensures { out.new ≡ chroma_blocks (read_plane forward_cb_plane forward_cb.now) (read_plane forward_cr_plane forward_cr.now) (read_plane backward_cb_plane backward_cb.now) (read_plane backward_cr_plane backward_cr.now) (Both forward_motion backward_motion) width height x y }
+    ensures { let forward_cb_read = read_plane forward_cb_plane forward_cb.now in
+        let forward_cr_read = read_plane forward_cr_plane forward_cr.now in
+        let backward_cb_read = read_plane backward_cb_plane backward_cb.now in
+        let backward_cr_read = read_plane backward_cr_plane backward_cr.now in
+        let motion = Both forward_motion backward_motion in
+        out.new ≡ chroma_blocks forward_cb_read forward_cr_read backward_cb_read backward_cr_read motion width height x y }
 {
     let n = width * height;
     let e = n + n;
@@ -479,7 +484,9 @@ fn predict_from_two(
     out: &mut [u8],
 )
     requires { FrameFits forward (samples_of forward_y.now forward_cb.now forward_cr.now) × FrameFits backward (samples_of backward_y.now backward_cb.now backward_cr.now) × CellFits chroma_format mb_col mb_row (length out.old) }
-    ensures { out.new ≡ predicted rounded chroma_format (read_frame forward (samples_of forward_y.now forward_cb.now forward_cr.now)) (read_frame backward (samples_of backward_y.now backward_cb.now backward_cr.now)) (Both forward_motion backward_motion) mb_col mb_row }
+    ensures { let forward_read = read_frame forward (samples_of forward_y.now forward_cb.now forward_cr.now) in
+        let backward_read = read_frame backward (samples_of backward_y.now backward_cb.now backward_cr.now) in
+        out.new ≡ predicted rounded chroma_format forward_read backward_read (Both forward_motion backward_motion) mb_col mb_row }
 {
     let size = chroma_mb_extent(chroma_format);
     let width = size.width;
@@ -648,8 +655,13 @@ fn predict_with_two(
     out: &mut [u8],
 ) -> u8
     requires { CellFits dest.chroma_format mb_col mb_row (length out.old) }
-    ensures number { result ≡ frames_refusal dest forward (lengths_of (samples_of forward_y.now forward_cb.now forward_cr.now)) backward (lengths_of (samples_of backward_y.now backward_cb.now backward_cr.now)) }
-    ensures buffer { out.new ≡ unless_refused result (predicted rounded dest.chroma_format (read_frame forward (samples_of forward_y.now forward_cb.now forward_cr.now)) (read_frame backward (samples_of backward_y.now backward_cb.now backward_cr.now)) (Both forward_motion backward_motion) mb_col mb_row) out.old }
+    ensures number { let forward_lengths = lengths_of (samples_of forward_y.now forward_cb.now forward_cr.now) in
+        let backward_lengths = lengths_of (samples_of backward_y.now backward_cb.now backward_cr.now) in
+        result ≡ frames_refusal dest forward forward_lengths backward backward_lengths }
+    ensures buffer { let forward_read = read_frame forward (samples_of forward_y.now forward_cb.now forward_cr.now) in
+        let backward_read = read_frame backward (samples_of backward_y.now backward_cb.now backward_cr.now) in
+        let prediction = predicted rounded dest.chroma_format forward_read backward_read (Both forward_motion backward_motion) mb_col mb_row in
+        out.new ≡ unless_refused result prediction out.old }
 {
     let forward_declared = forward.geometry;
     if !same_geometry(forward_declared, dest) {
@@ -703,8 +715,13 @@ fn predict_both(
     out: &mut [u8],
 ) -> u8
     requires { CellFits dest.chroma_format mb_col mb_row (length out.old) }
-    ensures number { result ≡ references_refusal dest forward (lengths_of (samples_of forward_y.now forward_cb.now forward_cr.now)) backward (lengths_of (samples_of backward_y.now backward_cb.now backward_cr.now)) (Both forward_motion backward_motion) }
-    ensures buffer { out.new ≡ unless_refused result (predicted rounded dest.chroma_format (read_reference forward (samples_of forward_y.now forward_cb.now forward_cr.now)) (read_reference backward (samples_of backward_y.now backward_cb.now backward_cr.now)) (Both forward_motion backward_motion) mb_col mb_row) out.old }
+    ensures number { let forward_lengths = lengths_of (samples_of forward_y.now forward_cb.now forward_cr.now) in
+        let backward_lengths = lengths_of (samples_of backward_y.now backward_cb.now backward_cr.now) in
+        result ≡ references_refusal dest forward forward_lengths backward backward_lengths (Both forward_motion backward_motion) }
+    ensures buffer { let forward_read = read_reference forward (samples_of forward_y.now forward_cb.now forward_cr.now) in
+        let backward_read = read_reference backward (samples_of backward_y.now backward_cb.now backward_cr.now) in
+        let prediction = predicted rounded dest.chroma_format forward_read backward_read (Both forward_motion backward_motion) mb_col mb_row in
+        out.new ≡ unless_refused result prediction out.old }
 {
     match forward {
         ReferenceFrame::Absent => FORWARD_MISSING,
