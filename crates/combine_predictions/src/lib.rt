@@ -3,20 +3,26 @@
 #![tactic(auto)]
 
 ghost use Rattle.std.specs.Prelude.{◌≡◌, length};
-ghost use Rattle.combine_predictions.specs.Refusals.{unless_refused};
-ghost use Rattle.combine_predictions.specs.Averaging.{mean2, averaged, average_answer, number_of};
+ghost use Rattle.std.specs.Result.{result_err};
+ghost use Rattle.combine_predictions.specs.Refusals.{averaging_number, unless_refused};
+ghost use Rattle.combine_predictions.specs.Averaging.{mean2, averaged, average_answer};
 ghost use Rattle.combine_predictions.specs.Choosing.{chosen};
 
-/// Refusal: the output is of the wrong length.
-pub const WRONG_LENGTH: u8 = 18;
-/// Refusal: the lengths of the inputs differ.
-pub const LENGTHS_DIFFER: u8 = 19;
+/// Why averaging refuses. Each reason has its number of docs/SCOPE.md.
+#[derive(Clone, Copy, Debug, PartialEq, Eq)]
+pub enum AveragingRefusal {
+    /// The output is of another length than the inputs.
+    WrongLength = 18,
+    /// The lengths of the inputs differ.
+    LengthsDiffer = 19,
+}
 
-/// What averaging answers: the output is written, or the number of the refusal, which writes nothing.
-#[derive(Clone, Copy)]
-pub enum Averaged {
-    Done,
-    Refused(u8),
+impl From<AveragingRefusal> for u32 {
+    ghost from_gives = { λ refusal number. number ≡ averaging_number refusal };
+
+    fn from(refusal: AveragingRefusal) -> u32 {
+        refusal as u32
+    }
 }
 
 /// Which of the two predictions a macroblock with one direction has. A bidirectional one goes through `average_predictions`.
@@ -37,18 +43,22 @@ fn avg2(a: u8, b: u8) -> u8
 
 /// Writes the mean of `forward` and `backward`, sample by sample, to `out`. It refuses inputs of differing lengths, then an output
 /// of another length than theirs, and leaves the output as it was.
-pub fn average_predictions(forward: &[u8], backward: &[u8], out: &mut [u8]) -> Averaged
+pub fn average_predictions(
+    forward: &[u8],
+    backward: &[u8],
+    out: &mut [u8],
+) -> Result<(), AveragingRefusal>
     ensures answer { result ≡ average_answer (length forward.now) (length backward.now) (length out.old) }
-    ensures buffer { out.new ≡ unless_refused (number_of result) (averaged forward.now backward.now) out.old }
+    ensures buffer { out.new ≡ unless_refused (result_err result) (averaged forward.now backward.now) out.old }
 {
     if forward.len() != backward.len() {
-        return Averaged::Refused(LENGTHS_DIFFER);
+        return Err(AveragingRefusal::LengthsDiffer);
     }
     if out.len() != forward.len() {
-        return Averaged::Refused(WRONG_LENGTH);
+        return Err(AveragingRefusal::WrongLength);
     }
     average_into(forward, backward, out);
-    Averaged::Done
+    Ok(())
 }
 
 /// The loop of `average_predictions`, for slices of one length.
@@ -56,10 +66,8 @@ fn average_into(forward: &[u8], backward: &[u8], out: &mut [u8])
     requires { (length backward.now ≡ length forward.now) × (length out.old ≡ length forward.now) }
     ensures { out.new ≡ averaged forward.now backward.now }
 {
-    let mut i: usize = 0;
-    while i < out.len() {
+    for i in 0..out.len() {
         out[i] = avg2(forward[i], backward[i]);
-        i += 1;
     }
 }
 

@@ -50,6 +50,11 @@ filled_step {f} {d} {n} {o} {v} h l e =
     let k : n < length d = omega arith in
     filled_of (omega arith) (rw (e, h.is, add-one n) (store n f d k))
 
+-- after a turn of `for n in 0..d.len()`, likewise
+pub filled_turn : {f : ℕ → ℕ} {d : List ℕ} {n : ℕ} {o : List ℕ} {v : ℕ}
+    → Filled f d n o → n < length d → v ≡ f n → Filled f d (n + 1) (set o n v)
+filled_turn h l e = filled_step h (omega (arith, h.long)) e
+
 -- after a turn in which a call wrote the part &mut o[n..n + m] and left `tabulate m g` there
 pub filled_part : {f g : ℕ → ℕ} {d : List ℕ} {n : ℕ} {o ys : List ℕ} (m : ℕ)
     → Filled f d n o
