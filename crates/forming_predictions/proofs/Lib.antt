@@ -8,7 +8,5 @@ pub mod Blocks
 pub mod Eights
 pub mod Forming
 pub mod Refusals
-pub mod SampleAnswers
-pub mod BlockAnswers
 pub mod Undivided
 pub mod Reading

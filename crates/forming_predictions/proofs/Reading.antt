@@ -8,12 +8,13 @@ use mir.Facts.{to_z-of_z}
 use Rattle.laws.proofs.Signed.{zp, zn}
 use Rattle.laws.proofs.Bits.{back}
 use Rattle.forming_predictions.specs.declared.Rows.{Rows}
-use Rattle.forming_predictions.specs.declared.Sampled.{Sampled}
+use Rattle.forming_predictions.specs.declared.FormingRefusal.{FormingRefusal}
 use Rattle.forming_predictions.specs.Lines.{Lines, clamp_to, sample_at}
 use Rattle.forming_predictions.specs.Means.{rounded}
 use Rattle.forming_predictions.specs.Forming.{formed}
 use Rattle.forming_predictions.specs.Refusals.{plane_refusal, sample_refusal}
-use Rattle.forming_predictions.specs.SampleAnswers.{sample_answer}
+use Rattle.std.specs.Prelude.{Result}
+use Rattle.combine_predictions.specs.Refusals.{answered}
 use Rattle.forming_predictions.specs.inner.Views.{line_start, inside_of, ReadsAs, rows_sample}
 use Rattle.forming_predictions.proofs.Views.{rows_sample_lem}
 use Rattle.forming_predictions.proofs.Forming.{lines_formed}
@@ -37,19 +38,19 @@ pub inside_at : (n limit : ℕ) {b : Bool} {z : ℤ} → SFits w32 z → b ≡ i
 inside_at n limit {z = z} f e t = inside_yes z n limit (sym (rw (to_z-of_z f) at e) ∙ t)
 
 -- what the calls answer for the rows of lines that are read, in terms of the lines
-pub sampled_lines : {r : Rows} {s : Sampled} (l : Lines) (w h : ℕ) (samples : List ℕ) (x y : ℤ) → SFits w32 x → SFits w32 y → ReadsAs l h r
-    → s ≡ sample_answer (plane_refusal w h (length samples)) (rows_sample r w h samples (to_z w32 (of_z w32 x)) (to_z w32 (of_z w32 y)))
-    → s ≡ sample_answer (plane_refusal w h (length samples)) (sample_at l w h samples x y)
+pub sampled_lines : {r : Rows} {s : Result ℕ FormingRefusal} (l : Lines) (w h : ℕ) (samples : List ℕ) (x y : ℤ) → SFits w32 x → SFits w32 y → ReadsAs l h r
+    → s ≡ answered (plane_refusal w h (length samples)) (rows_sample r w h samples (to_z w32 (of_z w32 x)) (to_z w32 (of_z w32 y)))
+    → s ≡ answered (plane_refusal w h (length samples)) (sample_at l w h samples x y)
 sampled_lines {r} l w h samples x y f g reads e =
     (rw (to_z-of_z f, to_z-of_z g) at e)
-    ∙ ap (λ (k : ℕ). sample_answer (plane_refusal w h (length samples)) k) (rows_sample_lem l h r reads w samples x y)
+    ∙ ap (λ (k : ℕ). answered (plane_refusal w h (length samples)) k) (rows_sample_lem l h r reads w samples x y)
 
-pub formed_lines : {r : Rows} {s : Sampled} (l : Lines) (w h : ℕ) (samples : List ℕ) (x y u v : ℤ)
+pub formed_lines : {r : Rows} {s : Result ℕ FormingRefusal} (l : Lines) (w h : ℕ) (samples : List ℕ) (x y u v : ℤ)
     → SFits w32 x → SFits w32 y → SFits w32 u → SFits w32 v → ReadsAs l h r
     → s
-    ≡ sample_answer (sample_refusal w h (length samples) (to_z w32 (of_z w32 x)) (to_z w32 (of_z w32 y)))
+    ≡ answered (sample_refusal w h (length samples) (to_z w32 (of_z w32 x)) (to_z w32 (of_z w32 y)))
     (formed rounded (rows_sample r w h samples) (to_z w32 (of_z w32 x)) (to_z w32 (of_z w32 y)) (to_z w32 (of_z w32 u)) (to_z w32 (of_z w32 v)))
-    → s ≡ sample_answer (sample_refusal w h (length samples) x y) (formed rounded (sample_at l w h samples) x y u v)
+    → s ≡ answered (sample_refusal w h (length samples) x y) (formed rounded (sample_at l w h samples) x y u v)
 formed_lines l w h samples x y u v f g i j reads e =
     (rw (to_z-of_z f, to_z-of_z g, to_z-of_z i, to_z-of_z j) at e)
-    ∙ ap (λ (k : ℕ). sample_answer (sample_refusal w h (length samples) x y) k) (lines_formed reads w samples x y u v)
+    ∙ ap (λ (k : ℕ). answered (sample_refusal w h (length samples) x y) k) (lines_formed reads w samples x y u v)

@@ -14,21 +14,24 @@ use mir.Val.{Fits}
 use Rattle.laws.proofs.Signed.{le_yes}
 use Rattle.laws.proofs.Bounded.{Within}
 use Rattle.laws.proofs.Tests.{both, range}
-use Rattle.combine_predictions.specs.Refusals.{wrong_length, cause, or_else}
-use Rattle.forming_predictions.specs.Refusals.{outside_domain, plane_fits, position_fits, block_side_fits, last_sample, last_block, plane_refusal, position_refusal, sample_refusal, block_refusal}
+use Rattle.std.specs.Prelude.{Option, Some, None}
+use Rattle.combine_predictions.specs.Refusals.{cause, or_else}
+use Rattle.forming_predictions.specs.declared.FormingRefusal.{FormingRefusal}
+use Rattle.forming_predictions.specs.declared.FormingRefusal.TheVariants.{OutsideDomain, WrongLength}
+use Rattle.forming_predictions.specs.Refusals.{plane_fits, position_fits, block_side_fits, last_sample, last_block, plane_refusal, position_refusal, sample_refusal, block_refusal}
 
 -- ---- chains: what it says that nothing is refused
-pub none_first : (m n : ℕ) → or_else m n ≡ 0 → m ≡ 0
-none_first zero n e = refl
-none_first (suc m) n e = absurd (omega arith)
+pub none_first : {R : Type 0} (m n : Option R) → or_else m n ≡ None → m ≡ None
+none_first None n e = refl
+none_first (Some r) n e = e
 
-pub none_second : (m n : ℕ) → or_else m n ≡ 0 → n ≡ 0
-none_second zero n e = e
-none_second (suc m) n e = absurd (omega arith)
+pub none_second : {R : Type 0} (m n : Option R) → or_else m n ≡ None → n ≡ None
+none_second None n e = e
+none_second (Some r) n e = absurd cc
 
-pub no_cause : (b : Bool) (n : ℕ) → 0 < n → cause (not b) n ≡ 0 → b ≡ true
-no_cause true n p e = refl
-no_cause false n p e = absurd (omega arith)
+pub no_cause : {R : Type 0} (b : Bool) (r : R) → cause (not b) r ≡ None → b ≡ true
+no_cause true r e = refl
+no_cause false r e = absurd cc
 
 -- ---- what is accepted
 pub record PlaneRight (w h n : ℕ) : Type 0 where
@@ -43,8 +46,8 @@ fitting_plane_lem w h n e =
     let b = both (leb h 16384) (eqb n (w * h)) a.1 in
     record { wide = leb-true w 16384 a.0; high = leb-true h 16384 b.0; count = eqb-true n (w * h) b.1 }
 
-pub plane_right : (w h n : ℕ) → plane_refusal w h n ≡ 0 → PlaneRight w h n
-plane_right w h n e = fitting_plane_lem w h n (no_cause (plane_fits w h n) 14 (omega arith) e)
+pub plane_right : (w h n : ℕ) → plane_refusal w h n ≡ None → PlaneRight w h n
+plane_right w h n e = fitting_plane_lem w h n (no_cause (plane_fits w h n) OutsideDomain e)
 
 -- a position that fits is at most 32,782 from 0
 position_within : (last : ℕ) (p : ℤ) → last ≤ 32782 → position_fits (pos last) p ≡ true → Within 32782 p
@@ -55,9 +58,9 @@ position_within last p l e =
     let b = le_yes p (pos last) t.1 in
     record { above = omega arith; below = omega arith }
 
-positions_within : (last : ℕ) (x y : ℤ) → last ≤ 32782 → position_refusal (pos last) x y ≡ 0 → Within 32782 x × Within 32782 y
+positions_within : (last : ℕ) (x y : ℤ) → last ≤ 32782 → position_refusal (pos last) x y ≡ None → Within 32782 x × Within 32782 y
 positions_within last x y l e =
-    let t = both (position_fits (pos last) x) (position_fits (pos last) y) (no_cause (position_fits (pos last) x && position_fits (pos last) y) 14 (omega arith) e) in
+    let t = both (position_fits (pos last) x) (position_fits (pos last) y) (no_cause (position_fits (pos last) x && position_fits (pos last) y) OutsideDomain e) in
     (position_within last x l t.0, position_within last y l t.1)
 
 pub record SampleRight (w h n : ℕ) (x y : ℤ) : Type 0 where
@@ -65,7 +68,7 @@ pub record SampleRight (w h n : ℕ) (x y : ℤ) : Type 0 where
   pub at_x : Within 32782 x
   pub at_y : Within 32782 y
 
-pub sample_right : (w h n : ℕ) (x y : ℤ) → sample_refusal w h n x y ≡ 0 → SampleRight w h n x y
+pub sample_right : (w h n : ℕ) (x y : ℤ) → sample_refusal w h n x y ≡ None → SampleRight w h n x y
 unfolding sample_refusal
 sample_right w h n x y e =
     let p = positions_within 32782 x y (omega arith) (none_second (plane_refusal w h n) (position_refusal last_sample x y) e) in
@@ -89,17 +92,17 @@ pub record BlockRight (w h n : ℕ) (x y : ℤ) (bw bh o : ℕ) : Type 0 where
   pub high : bh ≤ 16
   pub room : o ≡ bw * bh
 
-pub block_right : (w h n : ℕ) (x y : ℤ) (bw bh o : ℕ) → block_refusal w h n x y bw bh o ≡ 0 → BlockRight w h n x y bw bh o
+pub block_right : (w h n : ℕ) (x y : ℤ) (bw bh o : ℕ) → block_refusal w h n x y bw bh o ≡ None → BlockRight w h n x y bw bh o
 unfolding block_refusal
 block_right w h n x y bw bh o e =
     let c1 = plane_refusal w h n in
-    let c2 = cause (not (block_side_fits bw && block_side_fits bh)) outside_domain in
+    let c2 = cause (not (block_side_fits bw && block_side_fits bh)) OutsideDomain in
     let c3 = position_refusal last_block x y in
-    let c4 = cause (not (eqb o (bw * bh))) wrong_length in
+    let c4 = cause (not (eqb o (bw * bh))) WrongLength in
     let t1 = none_second c1 (or_else c2 (or_else c3 c4)) e in
     let t2 = none_second c2 (or_else c3 c4) t1 in
     let p = positions_within 32767 x y (omega arith) (none_first c3 c4 t2) in
-    let s = both (block_side_fits bw) (block_side_fits bh) (no_cause (block_side_fits bw && block_side_fits bh) 14 (omega arith) (none_first c2 (or_else c3 c4) t1)) in
+    let s = both (block_side_fits bw) (block_side_fits bh) (no_cause (block_side_fits bw && block_side_fits bh) OutsideDomain (none_first c2 (or_else c3 c4) t1)) in
     record {
       plane = plane_right w h n (none_first c1 (or_else c2 (or_else c3 c4)) e);
       at_x = p.0;
@@ -108,7 +111,7 @@ block_right w h n x y bw bh o e =
       wide = (side_range bw s.0).1;
       tall = (side_range bh s.1).0;
       high = (side_range bh s.1).1;
-      room = eqb-true o (bw * bh) (no_cause (eqb o (bw * bh)) 18 (omega arith) (none_second c3 c4 t2));
+      room = eqb-true o (bw * bh) (no_cause (eqb o (bw * bh)) WrongLength (none_second c3 c4 t2));
     }
 
 -- ---- the tests of a plane, in the order of the code
@@ -124,65 +127,58 @@ pub counted_plane : (w h n : ℕ) → w ≤ 16384 → h ≤ 16384 → eqb n (w *
 unfolding plane_fits
 counted_plane w h n p q = rw (le-leb w 16384 p, le-leb h 16384 q)
 
--- ---- several tests for one number
-one_cause : (a b : Bool) (n : ℕ) → cause (not (a && b)) n ≡ or_else (cause (not a) n) (cause (not b) n)
-one_cause true b n = refl
-one_cause false b zero = at b
-  where
-    at : (b : Bool) → 0 ≡ cause (not b) 0
-    at true = refl
-    at false = refl
-one_cause false b (suc n) = refl
+-- ---- several tests for one reason
+one_cause : {R : Type 0} (a b : Bool) (r : R) → cause (not (a && b)) r ≡ or_else (cause (not a) r) (cause (not b) r)
+one_cause true b r = refl
+one_cause false b r = refl
 
 pub sample_cause : (w h n : ℕ) (x y : ℤ)
-    → cause (not (plane_fits w h n && (position_fits last_sample x && position_fits last_sample y))) outside_domain ≡ sample_refusal w h n x y
+    → cause (not (plane_fits w h n && (position_fits last_sample x && position_fits last_sample y))) OutsideDomain ≡ sample_refusal w h n x y
 unfolding sample_refusal
-sample_cause w h n x y = one_cause (plane_fits w h n) (position_fits last_sample x && position_fits last_sample y) 14
+sample_cause w h n x y = one_cause (plane_fits w h n) (position_fits last_sample x && position_fits last_sample y) OutsideDomain
 
 -- a block's 14, and what follows it
-domain_then : (a b c : Bool) (n : ℕ)
-    → or_else (cause (not (a && (b && c))) 14) n ≡ or_else (cause (not a) 14) (or_else (cause (not b) 14) (or_else (cause (not c) 14) n))
-domain_then true true true n = refl
-domain_then true true false n = refl
-domain_then true false c n = refl
-domain_then false b c n = refl
+domain_then : {R : Type 0} (a b c : Bool) (r : R) (n : Option R)
+    → or_else (cause (not (a && (b && c))) r) n ≡ or_else (cause (not a) r) (or_else (cause (not b) r) (or_else (cause (not c) r) n))
+domain_then true true true r n = refl
+domain_then true true false r n = refl
+domain_then true false c r n = refl
+domain_then false b c r n = refl
 
 pub block_cause : (w h n : ℕ) (x y : ℤ) (bw bh o : ℕ)
-    → or_else (cause (not (plane_fits w h n && ((block_side_fits bw && block_side_fits bh) && (position_fits last_block x && position_fits last_block y)))) outside_domain)
-    (cause (not (eqb o (bw * bh))) wrong_length)
+    → or_else (cause (not (plane_fits w h n && ((block_side_fits bw && block_side_fits bh) && (position_fits last_block x && position_fits last_block y)))) OutsideDomain)
+    (cause (not (eqb o (bw * bh))) WrongLength)
     ≡ block_refusal w h n x y bw bh o
 unfolding block_refusal
 block_cause w h n x y bw bh o =
-    domain_then (plane_fits w h n) (block_side_fits bw && block_side_fits bh) (position_fits last_block x && position_fits last_block y) (cause (not (eqb o (bw * bh))) wrong_length)
+    domain_then (plane_fits w h n) (block_side_fits bw && block_side_fits bh) (position_fits last_block x && position_fits last_block y) OutsideDomain (cause (not (eqb o (bw * bh))) WrongLength)
 
 -- the sides of a block that fits
-pub sides_fit : (p r : Bool) (bw bh : ℕ) → cause (not (p && ((block_side_fits bw && block_side_fits bh) && r))) outside_domain ≡ 0 → (bw ≤ 16) × (bh ≤ 16)
+pub sides_fit : (p r : Bool) (bw bh : ℕ) → cause (not (p && ((block_side_fits bw && block_side_fits bh) && r))) OutsideDomain ≡ None → (bw ≤ 16) × (bh ≤ 16)
 sides_fit p r bw bh e =
-    let a = both p ((block_side_fits bw && block_side_fits bh) && r) (no_cause (p && ((block_side_fits bw && block_side_fits bh) && r)) 14 (omega arith) e) in
+    let a = both p ((block_side_fits bw && block_side_fits bh) && r) (no_cause (p && ((block_side_fits bw && block_side_fits bh) && r)) OutsideDomain e) in
     let b = both (block_side_fits bw && block_side_fits bh) r a.1 in
     let c = both (block_side_fits bw) (block_side_fits bh) b.0 in
     ((side_range bw c.0).1, (side_range bh c.1).1)
 
--- a number that is given ends the chain
-pub first_cause : (m n : ℕ) → (m ≡ 0 → ⊥) → m ≡ or_else m n
-first_cause zero n h = absurd (h refl)
-first_cause (suc m) n h = refl
+-- a reason that is given ends the chain
+pub first_cause : {R : Type 0} (m n : Option R) (r : R) → m ≡ Some r → Some r ≡ or_else m n
+first_cause m n r e = rw e
 
--- and one that is none leaves the rest of it
-pub next_cause : (m n k : ℕ) → m ≡ 0 → n ≡ k → k ≡ or_else m n
-next_cause zero n k e f = sym f
-next_cause (suc m) n k e f = absurd (omega arith)
+-- and where there is none, the rest of it decides
+pub next_cause : {R : Type 0} (m n k : Option R) → m ≡ None → n ≡ k → k ≡ or_else m n
+next_cause m n k e f = rw (e, f)
 
 -- ---- a block: when each number is given
 module _ (w h n : ℕ) (x y : ℤ) (bw bh o : ℕ) where
   abbrev in_domain : Bool
   in_domain = plane_fits w h n && ((block_side_fits bw && block_side_fits bh) && (position_fits last_block x && position_fits last_block y))
 
-  pub refused_14 : in_domain ≡ false → block_refusal w h n x y bw bh o ≡ outside_domain
+  pub refused_14 : in_domain ≡ false → block_refusal w h n x y bw bh o ≡ Some OutsideDomain
   refused_14 e = sym (block_cause w h n x y bw bh o) ∙ rw e
 
-  pub refused_18 : in_domain ≡ true → (o ≡ bw * bh → ⊥) → block_refusal w h n x y bw bh o ≡ wrong_length
+  pub refused_18 : in_domain ≡ true → (o ≡ bw * bh → ⊥) → block_refusal w h n x y bw bh o ≡ Some WrongLength
   refused_18 e f = sym (block_cause w h n x y bw bh o) ∙ rw (e, ne_eqb o (bw * bh) f)
 
-  pub accepted : in_domain ≡ true → o ≡ bw * bh → block_refusal w h n x y bw bh o ≡ 0
+  pub accepted : in_domain ≡ true → o ≡ bw * bh → block_refusal w h n x y bw bh o ≡ None
   accepted e f = sym (block_cause w h n x y bw bh o) ∙ rw (e, eq-eqb o (bw * bh) f)

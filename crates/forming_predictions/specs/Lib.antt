@@ -7,6 +7,4 @@ pub mod Lines
 pub mod Means
 pub mod Forming
 pub mod Refusals
-pub mod SampleAnswers
-pub mod BlockAnswers
 pub mod inner

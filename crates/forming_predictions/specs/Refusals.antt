@@ -1,12 +1,15 @@
 -- The scope (docs/SCOPE.md, "When a call refuses"): what the calls of this layer refuse, from sides, lengths and positions alone. 14 comes
 -- before 18. The limits are those of its section "The domain". Nothing here is the standard's.
-use Rattle.std.specs.Prelude.{Bool, not, ◌&&◌, ℕ, ◌*◌, leb, eqb, ℤ, pos, negsuc}
+use Rattle.std.specs.Prelude.{Bool, not, ◌&&◌, ℕ, ◌*◌, leb, eqb, ℤ, pos, negsuc, Option}
 use Rattle.std.specs.Int.Signed.{le_z}
-use Rattle.combine_predictions.specs.Refusals.{wrong_length, cause, or_else}
+use Rattle.combine_predictions.specs.Refusals.{cause, or_else}
+use Rattle.forming_predictions.specs.declared.FormingRefusal.{FormingRefusal}
+use Rattle.forming_predictions.specs.declared.FormingRefusal.TheVariants.{OutsideDomain, WrongLength}
 
--- a plane's length is not width times height, or a side or a position is outside the domain
-abbrev pub outside_domain : ℕ
-outside_domain = 14
+-- the numbers of the reasons
+abbrev pub forming_number : FormingRefusal → ℕ
+forming_number OutsideDomain = 14
+forming_number WrongLength = 18
 
 -- a plane's side: 0 to 16,384
 abbrev pub side_fits : ℕ → Bool
@@ -37,21 +40,21 @@ unfoldable pub block_side_fits : ℕ → Bool
 block_side_fits side = leb 1 side && leb side 16
 
 -- `sample`: no position is refused
-abbrev pub plane_refusal : ℕ → ℕ → ℕ → ℕ
-plane_refusal w h n = cause (not (plane_fits w h n)) outside_domain
+abbrev pub plane_refusal : ℕ → ℕ → ℕ → Option FormingRefusal
+plane_refusal w h n = cause (not (plane_fits w h n)) OutsideDomain
 
 -- both coordinates of a position
-abbrev pub position_refusal : ℤ → ℤ → ℤ → ℕ
-position_refusal last x y = cause (not (position_fits last x && position_fits last y)) outside_domain
+abbrev pub position_refusal : ℤ → ℤ → ℤ → Option FormingRefusal
+position_refusal last x y = cause (not (position_fits last x && position_fits last y)) OutsideDomain
 
 -- `predict_sample`, `predict_field_sample`
-unfoldable pub sample_refusal : ℕ → ℕ → ℕ → ℤ → ℤ → ℕ
+unfoldable pub sample_refusal : ℕ → ℕ → ℕ → ℤ → ℤ → Option FormingRefusal
 sample_refusal w h n x y = or_else (plane_refusal w h n) (position_refusal last_sample x y)
 
 -- `predict_block`, `predict_field_block`: a block of bw columns and bh rows into a buffer of o bytes
-unfoldable pub block_refusal : ℕ → ℕ → ℕ → ℤ → ℤ → ℕ → ℕ → ℕ → ℕ
+unfoldable pub block_refusal : ℕ → ℕ → ℕ → ℤ → ℤ → ℕ → ℕ → ℕ → Option FormingRefusal
 block_refusal w h n x y bw bh o =
     or_else (plane_refusal w h n)
-    (or_else (cause (not (block_side_fits bw && block_side_fits bh)) outside_domain)
+    (or_else (cause (not (block_side_fits bw && block_side_fits bh)) OutsideDomain)
     (or_else (position_refusal last_block x y)
-    (cause (not (eqb o (bw * bh))) wrong_length)))
+    (cause (not (eqb o (bw * bh))) WrongLength)))

@@ -2,25 +2,22 @@
 //! or field; a predicted sample is their rounded mean.
 #![tactic(auto)]
 
-ghost use Rattle.std.specs.Prelude.{◌≡◌, not, ◌||◌, ℕ, ◌+◌, ◌*◌, ◌/◌, ◌%◌, ◌≤◌, ◌<◌, ℤ, pos, ◌+ℤ◌, eqb, length, get_or};
+ghost use Rattle.std.specs.Prelude.{◌≡◌, None, not, ◌||◌, ℕ, ◌+◌, ◌*◌, ◌/◌, ◌%◌, ◌≤◌, ◌<◌, ℤ, pos, ◌+ℤ◌, eqb, length, get_or};
 ghost use Rattle.laws.specs.Tabulate.{tabulate};
 ghost use Rattle.laws.proofs.Bounded.{Within};
-ghost use Rattle.combine_predictions.specs.Refusals.{cause, unless_refused};
+ghost use Rattle.std.specs.Result.{result_ok, result_err};
+ghost use Rattle.combine_predictions.specs.Refusals.{cause, answered, value_unless, unless_refused};
 ghost use Rattle.combine_predictions.specs.Averaging.{mean2, averaged};
 ghost use Rattle.forming_predictions.specs.declared.FieldParity.TheVariants.{Bottom};
+ghost use Rattle.forming_predictions.specs.declared.FormingRefusal.TheVariants.{OutsideDomain};
 ghost use Rattle.forming_predictions.specs.Splitting.{floor_half, half_flag, IsSplit, horizontal_half, vertical_half};
 ghost use Rattle.forming_predictions.specs.Lines.{frame, field, field_lines, clamp_to, sample_at};
 ghost use Rattle.forming_predictions.specs.Means.{mean4, rounded};
 ghost use Rattle.forming_predictions.specs.Forming.{formed, predicted_block};
-ghost use Rattle.forming_predictions.specs.Refusals.{outside_domain, plane_fits, position_fits, block_side_fits, plane_refusal, sample_refusal, block_refusal};
-ghost use Rattle.forming_predictions.specs.SampleAnswers.{sample_number, sample_value, value_unless, sample_answer};
-ghost use Rattle.forming_predictions.specs.BlockAnswers.{block_number, block_answer};
+ghost use Rattle.forming_predictions.specs.Refusals.{forming_number, plane_fits, position_fits, block_side_fits, plane_refusal, sample_refusal, block_refusal};
 ghost use Rattle.forming_predictions.specs.inner.Views.{line_start, view_read, spread, two_of, four_of, clamped_of, line_cell, picked_of, picked, column_at, view_block, ViewFits, Readable, BlockFits, Eights, RowFits, Inside, ColumnsFit, FetchFits, RegionFits, inside_of, Steps, Reach, RowsFit, ReadsAs, rows_sample, bit_of};
 
-use combine_predictions::{WRONG_LENGTH, average_predictions};
-
-/// Refusal: a plane's length is not width times height, or a side or a position is outside the domain.
-pub const OUTSIDE_DOMAIN: u8 = 14;
+use combine_predictions::average_predictions;
 
 /// The largest side of a plane.
 pub const LARGEST_SIDE: usize = 16384;
@@ -34,7 +31,7 @@ pub const LAST_BLOCK: i32 = 32767;
 pub const LAST_SAMPLE: i32 = 32782;
 
 /// The four cases of half_flag\[0\], the horizontal one, and half_flag\[1\].
-#[derive(Clone, Copy)]
+#[derive(Clone, Copy, Debug, PartialEq, Eq)]
 pub enum HalfPattern {
     Integer,
     HalfHorizontal,
@@ -43,66 +40,69 @@ pub enum HalfPattern {
 }
 
 /// The flags of a pattern.
-#[derive(Clone, Copy)]
+#[derive(Clone, Copy, Debug, PartialEq, Eq)]
 pub struct HalfFlags {
     pub horizontal: bool,
     pub vertical: bool,
 }
 
 /// A component of a vector: whole samples, and whether a half is to be added.
-#[derive(Clone, Copy)]
+#[derive(Clone, Copy, Debug, PartialEq, Eq)]
 pub struct ComponentSplit {
     pub int_vec: i32,
     pub half_flag: bool,
 }
 
 /// A vector, split.
-#[derive(Clone, Copy)]
+#[derive(Clone, Copy, Debug, PartialEq, Eq)]
 pub struct SplitVector {
     pub horizontal: ComponentSplit,
     pub vertical: ComponentSplit,
 }
 
 /// The sides of a plane. Its samples, row after row, are passed beside it.
-#[derive(Clone, Copy)]
+#[derive(Clone, Copy, Debug, PartialEq, Eq)]
 pub struct ReferencePlane {
     pub width: usize,
     pub height: usize,
 }
 
 /// A field of a frame: the top field has rows 0, 2, 4 and so on, the bottom field rows 1, 3, 5.
-#[derive(Clone, Copy)]
+#[derive(Clone, Copy, Debug, PartialEq, Eq)]
 pub enum FieldParity {
     Top,
     Bottom,
 }
 
 /// A field of a plane that holds both fields, row by row in turn.
-#[derive(Clone, Copy)]
+#[derive(Clone, Copy, Debug, PartialEq, Eq)]
 pub struct FieldReference {
     pub plane: ReferencePlane,
     pub parity: FieldParity,
 }
 
 /// The sides of a predicted block.
-#[derive(Clone, Copy)]
+#[derive(Clone, Copy, Debug, PartialEq, Eq)]
 pub struct BlockSize {
     pub width: usize,
     pub height: usize,
 }
 
-/// A sample, or the number of the refusal.
-#[derive(Clone, Copy)]
-pub enum Sampled {
-    Sample(u8),
-    Refused(u8),
+/// Why a call of this layer refuses. Each reason has its number of docs/SCOPE.md.
+#[derive(Clone, Copy, Debug, PartialEq, Eq)]
+pub enum FormingRefusal {
+    /// A plane's length is not width times height, or a side or a position is outside the domain.
+    OutsideDomain = 14,
+    /// The output is not as long as the block.
+    WrongLength = 18,
 }
 
-/// A block was written, or the number of the refusal, which writes nothing.
-#[derive(Clone, Copy)]
-pub enum Predicted {
-    Done,
-    Refused(u8),
+impl From<FormingRefusal> for u32 {
+    ghost from_gives = { λ refusal number. number ≡ forming_number refusal };
+
+    fn from(refusal: FormingRefusal) -> u32 {
+        refusal as u32
+    }
 }
 
 /// The rows of a plane that are read as lines: row `first`, then every `step`-th, `count` of them. A frame and its fields differ in these
@@ -360,12 +360,12 @@ fn form_sample(
 
 // ---- rows of samples
 
-/// Averaging refuses differing lengths only, and these are equal.
+/// Averaging refuses differing lengths alone, and these are equal.
 fn mean2_samples(a: &[u8], b: &[u8], out: &mut [u8])
     requires { (length b.now ≡ length a.now) × (length out.old ≡ length a.now) }
     ensures { out.new ≡ averaged a.now b.now }
 {
-    average_predictions(a, b, out);
+    average_predictions(a, b, out).unwrap();
 }
 
 fn mean4_samples(a: &[u8], b: &[u8], c: &[u8], d: &[u8], out: &mut [u8])
@@ -1334,7 +1334,7 @@ fn half_step(vector: i32) -> usize
 
 /// The sample at (x, y). A plane has no samples where one of its sides is 0.
 fn read_rows(rows: Rows, plane: ReferencePlane, samples: &[u8], x: i32, y: i32) -> u8
-    requires { RowsFit rows plane.height × (plane_refusal plane.width plane.height (length samples.now) ≡ 0) }
+    requires { RowsFit rows plane.height × (plane_refusal plane.width plane.height (length samples.now) ≡ None) }
     ensures { result ≡ rows_sample rows plane.width plane.height samples.now x y }
 {
     if samples.len() == 0 {
@@ -1361,7 +1361,7 @@ fn form_rows_sample(
     horizontal: i32,
     vertical: i32,
 ) -> u8
-    requires { RowsFit rows plane.height × (sample_refusal plane.width plane.height (length samples.now) x y ≡ 0) }
+    requires { RowsFit rows plane.height × (sample_refusal plane.width plane.height (length samples.now) x y ≡ None) }
     ensures { result ≡ formed rounded (rows_sample rows plane.width plane.height samples.now) x y horizontal vertical }
 {
     if samples.len() == 0 {
@@ -1392,7 +1392,7 @@ fn form_rows(
     vertical: i32,
     out: &mut [u8],
 )
-    requires { RowsFit rows plane.height × (block_refusal plane.width plane.height (length samples.now) x y size.width size.height (length out.old) ≡ 0) }
+    requires { RowsFit rows plane.height × (block_refusal plane.width plane.height (length samples.now) x y size.width size.height (length out.old) ≡ None) }
     ensures { out.new ≡ predicted_block rounded (rows_sample rows plane.width plane.height samples.now) size.width size.height x y horizontal vertical }
 {
     form(
@@ -1439,63 +1439,68 @@ fn block_side_fits(side: usize) -> bool
     (1 <= side) & (side <= LARGEST_BLOCK_SIDE)
 }
 
-/// 14 unless what a call is given fits the domain.
-fn domain_refusal(fits: bool) -> u8
-    ensures { result ≡ cause (not fits) outside_domain }
+/// Refuses what does not fit the domain.
+fn check_domain(fits: bool) -> Result<(), FormingRefusal>
+    ensures { result ≡ answered (cause (not fits) OutsideDomain) tt }
 {
     if fits {
-        return 0;
+        return Ok(());
     }
-    OUTSIDE_DOMAIN
+    Err(FormingRefusal::OutsideDomain)
 }
 
-fn plane_refusal(plane: ReferencePlane, count: usize) -> u8
-    ensures { result ≡ plane_refusal plane.width plane.height count }
+fn check_plane(plane: ReferencePlane, count: usize) -> Result<(), FormingRefusal>
+    ensures { result ≡ answered (plane_refusal plane.width plane.height count) tt }
 {
-    domain_refusal(plane_fits(plane, count))
+    check_domain(plane_fits(plane, count))
 }
 
-fn sample_refusal(plane: ReferencePlane, count: usize, x: i32, y: i32) -> u8
-    ensures { result ≡ sample_refusal plane.width plane.height count x y }
+fn check_sample(
+    plane: ReferencePlane,
+    count: usize,
+    x: i32,
+    y: i32,
+) -> Result<(), FormingRefusal>
+    ensures { result ≡ answered (sample_refusal plane.width plane.height count x y) tt }
 {
-    domain_refusal(
+    check_domain(
         plane_fits(plane, count) & (position_fits(LAST_SAMPLE, x) & position_fits(LAST_SAMPLE, y)),
     )
 }
 
-fn block_refusal(
+fn check_block(
     plane: ReferencePlane,
     count: usize,
     x: i32,
     y: i32,
     size: BlockSize,
     room: usize,
-) -> u8
-    ensures { result ≡ block_refusal plane.width plane.height count x y size.width size.height room }
+) -> Result<(), FormingRefusal>
+    ensures { result ≡ answered (block_refusal plane.width plane.height count x y size.width size.height room) tt }
 {
     let sides = block_side_fits(size.width) & block_side_fits(size.height);
     let positions = position_fits(LAST_BLOCK, x) & position_fits(LAST_BLOCK, y);
-    let domain = domain_refusal(plane_fits(plane, count) & (sides & positions));
-    if domain != 0 {
-        return domain;
-    }
+    check_domain(plane_fits(plane, count) & (sides & positions))?;
     if room != size.width * size.height {
-        return WRONG_LENGTH;
+        return Err(FormingRefusal::WrongLength);
     }
-    0
+    Ok(())
 }
 
 // ---- the calls, for the rows of a frame or a field
 
-fn sample_rows(rows: Rows, plane: ReferencePlane, samples: &[u8], x: i32, y: i32) -> Sampled
+fn sample_rows(
+    rows: Rows,
+    plane: ReferencePlane,
+    samples: &[u8],
+    x: i32,
+    y: i32,
+) -> Result<u8, FormingRefusal>
     requires { RowsFit rows plane.height }
-    ensures answer { result ≡ sample_answer (plane_refusal plane.width plane.height (length samples.now)) (rows_sample rows plane.width plane.height samples.now x y) }
+    ensures answer { result ≡ answered (plane_refusal plane.width plane.height (length samples.now)) (rows_sample rows plane.width plane.height samples.now x y) }
 {
-    let number = plane_refusal(plane, samples.len());
-    if number != 0 {
-        return Sampled::Refused(number);
-    }
-    Sampled::Sample(read_rows(rows, plane, samples, x, y))
+    check_plane(plane, samples.len())?;
+    Ok(read_rows(rows, plane, samples, x, y))
 }
 
 fn predict_rows_sample(
@@ -1506,20 +1511,17 @@ fn predict_rows_sample(
     y: i32,
     horizontal: i32,
     vertical: i32,
-) -> Sampled
+) -> Result<u8, FormingRefusal>
     requires { RowsFit rows plane.height }
-    ensures answer { result ≡ sample_answer (sample_refusal plane.width plane.height (length samples.now) x y) (formed rounded (rows_sample rows plane.width plane.height samples.now) x y horizontal vertical) }
+    ensures answer { result ≡ answered (sample_refusal plane.width plane.height (length samples.now) x y) (formed rounded (rows_sample rows plane.width plane.height samples.now) x y horizontal vertical) }
 {
-    let number = sample_refusal(plane, samples.len(), x, y);
-    if number != 0 {
-        return Sampled::Refused(number);
-    }
-    Sampled::Sample(form_rows_sample(rows, plane, samples, x, y, horizontal, vertical))
+    check_sample(plane, samples.len(), x, y)?;
+    Ok(form_rows_sample(rows, plane, samples, x, y, horizontal, vertical))
 }
 
-/// The refusal is given: the callers compute it, since the compiler inlines both parts there, and not a function that has both.
+/// The answer of the tests is given: the callers make them, since the compiler inlines both parts there, and not a function that has both.
 fn predict_rows_block(
-    number: u8,
+    checked: Result<(), FormingRefusal>,
     rows: Rows,
     plane: ReferencePlane,
     samples: &[u8],
@@ -1529,16 +1531,14 @@ fn predict_rows_block(
     horizontal: i32,
     vertical: i32,
     out: &mut [u8],
-) -> Predicted
-    requires { RowsFit rows plane.height × (number ≡ block_refusal plane.width plane.height (length samples.now) x y size.width size.height (length out.old)) }
-    ensures answer { result ≡ block_answer (block_refusal plane.width plane.height (length samples.now) x y size.width size.height (length out.old)) }
-    ensures buffer { out.new ≡ unless_refused (block_number result) (predicted_block rounded (rows_sample rows plane.width plane.height samples.now) size.width size.height x y horizontal vertical) out.old }
+) -> Result<(), FormingRefusal>
+    requires { RowsFit rows plane.height × (checked ≡ answered (block_refusal plane.width plane.height (length samples.now) x y size.width size.height (length out.old)) tt) }
+    ensures answer { result ≡ answered (block_refusal plane.width plane.height (length samples.now) x y size.width size.height (length out.old)) tt }
+    ensures buffer { out.new ≡ unless_refused (result_err result) (predicted_block rounded (rows_sample rows plane.width plane.height samples.now) size.width size.height x y horizontal vertical) out.old }
 {
-    if number != 0 {
-        return Predicted::Refused(number);
-    }
+    checked?;
     form_rows(rows, plane, samples, x, y, size, horizontal, vertical, out);
-    Predicted::Done
+    Ok(())
 }
 
 // ---- the calls
@@ -1546,10 +1546,10 @@ fn predict_rows_block(
 impl ReferencePlane {
     /// The sample at (x, y), which is clamped to the plane: any position is taken. It refuses a plane that is outside the domain or whose
     /// samples are not width times height.
-    pub fn sample(self, samples: &[u8], x: i32, y: i32) -> Sampled
-        ensures answer { result ≡ sample_answer (plane_refusal self.width self.height (length samples.now)) (sample_at frame self.width self.height samples.now x y) }
-        ensures number { sample_number result ≡ plane_refusal self.width self.height (length samples.now) }
-        ensures value { sample_value result ≡ value_unless (sample_number result) (sample_at frame self.width self.height samples.now x y) }
+    pub fn sample(self, samples: &[u8], x: i32, y: i32) -> Result<u8, FormingRefusal>
+        ensures answer { result ≡ answered (plane_refusal self.width self.height (length samples.now)) (sample_at frame self.width self.height samples.now x y) }
+        ensures refusal { result_err result ≡ plane_refusal self.width self.height (length samples.now) }
+        ensures value { result_ok result ≡ value_unless (result_err result) (sample_at frame self.width self.height samples.now x y) }
     {
         sample_rows(frame_rows(self.height), self, samples, x, y)
     }
@@ -1557,10 +1557,10 @@ impl ReferencePlane {
 
 impl FieldReference {
     /// The sample of the field at (x, y): y is clamped to the field's lines, x to the plane.
-    pub fn sample(self, samples: &[u8], x: i32, y: i32) -> Sampled
-        ensures answer { result ≡ sample_answer (plane_refusal self.plane.width self.plane.height (length samples.now)) (sample_at (field self.parity) self.plane.width self.plane.height samples.now x y) }
-        ensures number { sample_number result ≡ plane_refusal self.plane.width self.plane.height (length samples.now) }
-        ensures value { sample_value result ≡ value_unless (sample_number result) (sample_at (field self.parity) self.plane.width self.plane.height samples.now x y) }
+    pub fn sample(self, samples: &[u8], x: i32, y: i32) -> Result<u8, FormingRefusal>
+        ensures answer { result ≡ answered (plane_refusal self.plane.width self.plane.height (length samples.now)) (sample_at (field self.parity) self.plane.width self.plane.height samples.now x y) }
+        ensures refusal { result_err result ≡ plane_refusal self.plane.width self.plane.height (length samples.now) }
+        ensures value { result_ok result ≡ value_unless (result_err result) (sample_at (field self.parity) self.plane.width self.plane.height samples.now x y) }
     {
         sample_rows(field_rows(self), self.plane, samples, x, y)
     }
@@ -1575,10 +1575,10 @@ pub fn predict_sample(
     y: i32,
     horizontal: i32,
     vertical: i32,
-) -> Sampled
-    ensures answer { result ≡ sample_answer (sample_refusal reference.width reference.height (length samples.now) x y) (formed rounded (sample_at frame reference.width reference.height samples.now) x y horizontal vertical) }
-    ensures number { sample_number result ≡ sample_refusal reference.width reference.height (length samples.now) x y }
-    ensures value { sample_value result ≡ value_unless (sample_number result) (formed rounded (sample_at frame reference.width reference.height samples.now) x y horizontal vertical) }
+) -> Result<u8, FormingRefusal>
+    ensures answer { result ≡ answered (sample_refusal reference.width reference.height (length samples.now) x y) (formed rounded (sample_at frame reference.width reference.height samples.now) x y horizontal vertical) }
+    ensures refusal { result_err result ≡ sample_refusal reference.width reference.height (length samples.now) x y }
+    ensures value { result_ok result ≡ value_unless (result_err result) (formed rounded (sample_at frame reference.width reference.height samples.now) x y horizontal vertical) }
 {
     predict_rows_sample(
         frame_rows(reference.height),
@@ -1599,10 +1599,10 @@ pub fn predict_field_sample(
     y: i32,
     horizontal: i32,
     vertical: i32,
-) -> Sampled
-    ensures answer { result ≡ sample_answer (sample_refusal reference.plane.width reference.plane.height (length samples.now) x y) (formed rounded (sample_at (field reference.parity) reference.plane.width reference.plane.height samples.now) x y horizontal vertical) }
-    ensures number { sample_number result ≡ sample_refusal reference.plane.width reference.plane.height (length samples.now) x y }
-    ensures value { sample_value result ≡ value_unless (sample_number result) (formed rounded (sample_at (field reference.parity) reference.plane.width reference.plane.height samples.now) x y horizontal vertical) }
+) -> Result<u8, FormingRefusal>
+    ensures answer { result ≡ answered (sample_refusal reference.plane.width reference.plane.height (length samples.now) x y) (formed rounded (sample_at (field reference.parity) reference.plane.width reference.plane.height samples.now) x y horizontal vertical) }
+    ensures refusal { result_err result ≡ sample_refusal reference.plane.width reference.plane.height (length samples.now) x y }
+    ensures value { result_ok result ≡ value_unless (result_err result) (formed rounded (sample_at (field reference.parity) reference.plane.width reference.plane.height samples.now) x y horizontal vertical) }
 {
     predict_rows_sample(
         field_rows(reference),
@@ -1627,12 +1627,12 @@ pub fn predict_block(
     horizontal: i32,
     vertical: i32,
     out: &mut [u8],
-) -> Predicted
-    ensures answer { result ≡ block_answer (block_refusal reference.width reference.height (length samples.now) top_left_x top_left_y size.width size.height (length out.old)) }
-    ensures buffer { out.new ≡ unless_refused (block_number result) (predicted_block rounded (sample_at frame reference.width reference.height samples.now) size.width size.height top_left_x top_left_y horizontal vertical) out.old }
+) -> Result<(), FormingRefusal>
+    ensures answer { result ≡ answered (block_refusal reference.width reference.height (length samples.now) top_left_x top_left_y size.width size.height (length out.old)) tt }
+    ensures buffer { out.new ≡ unless_refused (result_err result) (predicted_block rounded (sample_at frame reference.width reference.height samples.now) size.width size.height top_left_x top_left_y horizontal vertical) out.old }
 {
     predict_rows_block(
-        block_refusal(
+        check_block(
             reference,
             samples.len(),
             top_left_x,
@@ -1662,12 +1662,12 @@ pub fn predict_field_block(
     horizontal: i32,
     vertical: i32,
     out: &mut [u8],
-) -> Predicted
-    ensures answer { result ≡ block_answer (block_refusal reference.plane.width reference.plane.height (length samples.now) top_left_x top_left_y size.width size.height (length out.old)) }
-    ensures buffer { out.new ≡ unless_refused (block_number result) (predicted_block rounded (sample_at (field reference.parity) reference.plane.width reference.plane.height samples.now) size.width size.height top_left_x top_left_y horizontal vertical) out.old }
+) -> Result<(), FormingRefusal>
+    ensures answer { result ≡ answered (block_refusal reference.plane.width reference.plane.height (length samples.now) top_left_x top_left_y size.width size.height (length out.old)) tt }
+    ensures buffer { out.new ≡ unless_refused (result_err result) (predicted_block rounded (sample_at (field reference.parity) reference.plane.width reference.plane.height samples.now) size.width size.height top_left_x top_left_y horizontal vertical) out.old }
 {
     predict_rows_block(
-        block_refusal(
+        check_block(
             reference.plane,
             samples.len(),
             top_left_x,

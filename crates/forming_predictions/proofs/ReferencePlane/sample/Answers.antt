@@ -1,6 +1,6 @@
 -- The plane's rows are the frame's lines.
 -- Assumes nothing.
-use Rattle.forming_predictions.proofs.SampleAnswers.{value_of}
+use Rattle.combine_predictions.proofs.Answers.{value_of}
 use Rattle.forming_predictions.proofs.Reading.{sampled_lines}
 use Rattle.forming_predictions.proofs.ReferencePlane.sample.Goals as goal
 
