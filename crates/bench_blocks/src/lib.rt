@@ -3,22 +3,23 @@
 #![tactic(auto)]
 
 ghost use Rattle.std.specs.Prelude.{◌≡◌, length};
-ghost use Rattle.combine_predictions.specs.Refusals.{unless_refused};
+ghost use Rattle.std.specs.Result.{result_err};
+ghost use Rattle.combine_predictions.specs.Refusals.{code, unless_refused};
 ghost use Rattle.forming_predictions.specs.Lines.{sample_at};
 ghost use Rattle.forming_predictions.specs.Means.{rounded};
 ghost use Rattle.forming_predictions.specs.Forming.{predicted_block};
-ghost use Rattle.forming_predictions.specs.Refusals.{block_refusal};
-ghost use Rattle.forming_predictions.specs.BlockAnswers.{block_number};
+ghost use Rattle.forming_predictions.specs.Refusals.{forming_number, block_refusal};
 ghost use Rattle.bench_blocks.specs.Sources.{parity_of, lines_of};
 
-use forming_predictions::{BlockSize, FieldParity, FieldReference, Predicted, ReferencePlane};
+use forming_predictions::{BlockSize, FieldParity, FieldReference, FormingRefusal, ReferencePlane};
 
-fn number_of(answer: Predicted) -> u32
-    ensures { result ≡ block_number answer }
+/// 0, or the number of the refusal.
+fn code_of(answer: Result<(), FormingRefusal>) -> u32
+    ensures { result ≡ code forming_number (result_err answer) }
 {
     match answer {
-        Predicted::Done => 0,
-        Predicted::Refused(n) => n as u32,
+        Ok(()) => 0,
+        Err(refusal) => u32::from(refusal),
     }
 }
 
@@ -46,8 +47,8 @@ pub extern "C" fn fozdrik_bench_block(
     vertical: i32,
     out: &mut [u8],
 ) -> u32
-    ensures number { result ≡ block_refusal width height (length samples.now) x y block_width block_height (length out.old) }
-    ensures buffer { out.new ≡ unless_refused result (predicted_block rounded (sample_at (lines_of from) width height samples.now) block_width block_height x y horizontal vertical) out.old }
+    ensures number { result ≡ code forming_number (block_refusal width height (length samples.now) x y block_width block_height (length out.old)) }
+    ensures buffer { out.new ≡ unless_refused (block_refusal width height (length samples.now) x y block_width block_height (length out.old)) (predicted_block rounded (sample_at (lines_of from) width height samples.now) block_width block_height x y horizontal vertical) out.old }
 {
     let plane = ReferencePlane {
         width: width,
@@ -58,11 +59,11 @@ pub extern "C" fn fozdrik_bench_block(
         height: block_height,
     };
     if from > 1 {
-        return number_of(forming_predictions::predict_block(
+        return code_of(forming_predictions::predict_block(
             plane, samples, x, y, size, horizontal, vertical, out,
         ));
     }
-    number_of(forming_predictions::predict_field_block(
+    code_of(forming_predictions::predict_field_block(
         FieldReference {
             plane: plane,
             parity: parity_of(from),

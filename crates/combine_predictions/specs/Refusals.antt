@@ -35,3 +35,8 @@ value_unless (Some r) v = None
 abbrev pub unless_refused : {R A : Type 0} → Option R → A → A → A
 unless_refused None written kept = written
 unless_refused (Some r) written kept = kept
+
+-- what C is told: the number of the refusal, and 0 for none
+abbrev pub code : {R : Type 0} → (R → ℕ) → Option R → ℕ
+code number None = 0
+code number (Some r) = number r
