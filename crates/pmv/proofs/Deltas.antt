@@ -16,12 +16,14 @@ use Rattle.laws.proofs.Signed.{le_yes}
 use Rattle.laws.proofs.Bounded.{Within}
 use Rattle.laws.proofs.Tests.{both, range}
 use Rattle.forming_predictions.proofs.Refusals.{no_cause}
+use Rattle.std.specs.Prelude.{None}
+use Rattle.pmv.specs.declared.component.VectorRefusal.TheVariants.{FCodeOutside}
 use Rattle.pmv.specs.Delta.{scale, is_plain, f_code_fits, code_fits, f_code_refusal}
 
 -- ---- f_code and f
-pub f_code_range : (k : ℕ) → f_code_refusal k ≡ 0 → (1 ≤ k) × (k ≤ 9)
+pub f_code_range : (k : ℕ) → f_code_refusal k ≡ None → (1 ≤ k) × (k ≤ 9)
 unfolding f_code_fits
-f_code_range k e = range 1 9 k (no_cause (leb 1 k && leb k 9) 1 (omega arith) e)
+f_code_range k e = range 1 9 k (no_cause (leb 1 k && leb k 9) FCodeOutside e)
 
 pub scale_range : (k : ℕ) → k ≤ 9 → (1 ≤ scale k) × (scale k ≤ 256)
 unfolding scale

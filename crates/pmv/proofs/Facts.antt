@@ -10,7 +10,9 @@ use Rattle.laws.proofs.Signed.{zp, zn, add_z, sub_z, neg_p, neg_n, mul_p, mul_n,
 use Rattle.laws.proofs.Tests.{both}
 use Rattle.combine_predictions.specs.Refusals.{cause, or_else}
 use Rattle.forming_predictions.proofs.Refusals.{none_first, none_second, no_cause}
-use Rattle.pmv.specs.Refusals.{delta_outside, vector_outside}
+use Rattle.std.specs.Prelude.{Option, Some, None}
+use Rattle.pmv.specs.declared.component.VectorRefusal.{VectorRefusal}
+use Rattle.pmv.specs.declared.component.VectorRefusal.TheVariants.{DeltaOutside, VectorOutside}
 use Rattle.pmv.specs.Component.{range_of, in_range, prediction, lowered, wrapped, vector_of, new_predictor, from_delta, from_delta_refusal}
 
 module _ (f : ℕ) where
@@ -108,19 +110,19 @@ module _ (f : ℕ) where
       pub vector : InRange (vector_of (range_of f) h p d)
       pub wrap : IsWrapped (prediction h p +ℤ d) (vector_of (range_of f) h p d)
 
-    pub accepted_is : from_delta_refusal (range_of f) h p d ≡ 0 → Accepted
+    pub accepted_is : from_delta_refusal (range_of f) h p d ≡ None → Accepted
     unfolding from_delta_refusal
     accepted_is e =
-        let c5 = cause (not (in_range (range_of f) d)) delta_outside in
-        let c6 = cause (not (in_range (range_of f) (vector_of (range_of f) h p d))) vector_outside in
+        let c5 = cause (not (in_range (range_of f) d)) DeltaOutside in
+        let c6 = cause (not (in_range (range_of f) (vector_of (range_of f) h p d))) VectorOutside in
         record {
-          delta = in_range_lem d (no_cause (in_range (range_of f) d) 5 (omega arith) (none_first c5 c6 e));
-          vector = in_range_lem _ (no_cause (in_range (range_of f) (vector_of (range_of f) h p d)) 6 (omega arith) (none_second c5 c6 e));
+          delta = in_range_lem d (no_cause (in_range (range_of f) d) DeltaOutside (none_first c5 c6 e));
+          vector = in_range_lem _ (no_cause (in_range (range_of f) (vector_of (range_of f) h p d)) VectorOutside (none_second c5 c6 e));
           wrap = wrapped_is (prediction h p +ℤ d);
         }
 
     -- 6 is given exactly where the prediction and delta are outside -48f .. 48f - 1 and 5 is not
-    pub six_if : in_range (range_of f) d ≡ true → (InReach (prediction h p +ℤ d) → ⊥) → from_delta_refusal (range_of f) h p d ≡ 6
+    pub six_if : in_range (range_of f) d ≡ true → (InReach (prediction h p +ℤ d) → ⊥) → from_delta_refusal (range_of f) h p d ≡ Some VectorOutside
     unfolding from_delta_refusal
     six_if e g = rw (e, at (in_range (range_of f) (vector_of (range_of f) h p d)) refl)
       where
@@ -128,18 +130,18 @@ module _ (f : ℕ) where
         at true q = absurd (g (range_reach _ _ (wrapped_is (prediction h p +ℤ d)) (in_range_lem _ q)))
         at false q = q
 
-    pub six_only : from_delta_refusal (range_of f) h p d ≡ 6 → InReach (prediction h p +ℤ d) → ⊥
+    pub six_only : from_delta_refusal (range_of f) h p d ≡ Some VectorOutside → InReach (prediction h p +ℤ d) → ⊥
     unfolding from_delta_refusal
     six_only e r =
         let v = range_in _ (reach_range _ _ (wrapped_is (prediction h p +ℤ d)) r) in
         at (in_range (range_of f) d) (rw v at e)
       where
-        at : (t : Bool) → or_else (cause (not t) delta_outside) 0 ≡ 6 → ⊥
-        at true q = absurd (omega arith)
-        at false q = absurd (omega arith)
+        at : (t : Bool) → or_else (cause (not t) DeltaOutside) None ≡ Some VectorOutside → ⊥
+        at true q = cc
+        at false q = cc
 
     -- the Rust's last test, 2 * low ≤ new predictor ≤ 2 * high + 1, never fails, and is left out
-    pub last_test : from_delta_refusal (range_of f) h p d ≡ 0
+    pub last_test : from_delta_refusal (range_of f) h p d ≡ None
         → (le_z ((range_of f).low *ℤ pos 2) (from_delta (range_of f) h p d).new_pmv ≡ true)
         × (le_z (from_delta (range_of f) h p d).new_pmv ((range_of f).high *ℤ pos 2 +ℤ pos 1) ≡ true)
     unfolding range_of from_delta

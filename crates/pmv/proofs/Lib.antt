@@ -5,6 +5,5 @@ pub mod Deltas
 pub mod Ranges
 pub mod Rows
 pub mod Lists
-pub mod Vectors
 pub mod Facts
 pub mod Chrominance

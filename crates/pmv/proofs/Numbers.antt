@@ -5,6 +5,7 @@ use mathlib.Core.Bool.{true, false}
 use Prim.Native.Nat.{ℕ, ◌≤◌}
 use native.Mathlib.Omega.{arith}
 use borrow.Author.Tests.{ne_eqb}
+use Rattle.std.specs.Prelude.{Some, None}
 use Rattle.forming_predictions.specs.declared.FieldParity.{FieldParity}
 use Rattle.forming_predictions.specs.declared.FieldParity.TheVariants.{Top, Bottom}
 use Rattle.pmv.specs.Kinds.{component_number, direction_number, direction_from, index_number, index_from, format_number, format_from, structure_number, structure_from, type_number, type_from, chroma_number, chroma_from, parity_from, flag_from}
@@ -12,19 +13,11 @@ use Rattle.forming_predictions.specs.Lines.{parity_row}
 use Rattle.pmv.specs.declared.kinds.Component.{Component}
 use Rattle.pmv.specs.declared.kinds.Component.TheVariants.{Horizontal, Vertical}
 use Rattle.pmv.specs.declared.kinds.Direction.{Direction}
-use Rattle.pmv.specs.declared.kinds.OptionDirection.TheVariants as OptionDirection
 use Rattle.pmv.specs.declared.kinds.VectorIndex.{VectorIndex}
-use Rattle.pmv.specs.declared.kinds.OptionVectorIndex.TheVariants as OptionVectorIndex
 use Rattle.pmv.specs.declared.kinds.MvFormat.{MvFormat}
-use Rattle.pmv.specs.declared.kinds.OptionMvFormat.TheVariants as OptionMvFormat
 use Rattle.pmv.specs.declared.kinds.PictureStructure.{PictureStructure}
-use Rattle.pmv.specs.declared.kinds.OptionPictureStructure.TheVariants as OptionPictureStructure
 use Rattle.pmv.specs.declared.kinds.PredictionType.{PredictionType}
-use Rattle.pmv.specs.declared.kinds.OptionPredictionType.TheVariants as OptionPredictionType
 use Rattle.pmv.specs.declared.kinds.ChromaFormat.{ChromaFormat}
-use Rattle.pmv.specs.declared.kinds.OptionChromaFormat.TheVariants as OptionChromaFormat
-use Rattle.pmv.specs.declared.kinds.OptionFieldParity.TheVariants as OptionFieldParity
-use Rattle.pmv.specs.declared.kinds.OptionFlag.TheVariants as OptionFlag
 
 -- ---- the indices of a predictor
 pub component_le : (t : Component) → component_number t ≤ 1
@@ -40,61 +33,61 @@ index-le VectorIndex.First = omega arith
 index-le VectorIndex.Second = omega arith
 
 -- ---- a kind's number means the kind, and a parity's row the parity; a larger number means none
-pub direction_back : (k : Direction) → direction_from (direction_number k) ≡ OptionDirection.Some k
+pub direction_back : (k : Direction) → direction_from (direction_number k) ≡ Some k
 direction_back Direction.Forward = refl
 direction_back Direction.Backward = refl
 
-pub direction_none : (n : ℕ) → 2 ≤ n → direction_from n ≡ OptionDirection.None
+pub direction_none : (n : ℕ) → 2 ≤ n → direction_from n ≡ None
 direction_none n h = rw (ne_eqb n 0 (λ e. absurd (omega arith)), ne_eqb n 1 (λ e. absurd (omega arith)))
 
-pub index_back : (k : VectorIndex) → index_from (index_number k) ≡ OptionVectorIndex.Some k
+pub index_back : (k : VectorIndex) → index_from (index_number k) ≡ Some k
 index_back VectorIndex.First = refl
 index_back VectorIndex.Second = refl
 
-pub index-none : (n : ℕ) → 2 ≤ n → index_from n ≡ OptionVectorIndex.None
+pub index-none : (n : ℕ) → 2 ≤ n → index_from n ≡ None
 index-none n h = rw (ne_eqb n 0 (λ e. absurd (omega arith)), ne_eqb n 1 (λ e. absurd (omega arith)))
 
-pub format_back : (k : MvFormat) → format_from (format_number k) ≡ OptionMvFormat.Some k
+pub format_back : (k : MvFormat) → format_from (format_number k) ≡ Some k
 format_back MvFormat.Field = refl
 format_back MvFormat.Frame = refl
 
-pub format_none : (n : ℕ) → 2 ≤ n → format_from n ≡ OptionMvFormat.None
+pub format_none : (n : ℕ) → 2 ≤ n → format_from n ≡ None
 format_none n h = rw (ne_eqb n 0 (λ e. absurd (omega arith)), ne_eqb n 1 (λ e. absurd (omega arith)))
 
-pub structure_back : (k : PictureStructure) → structure_from (structure_number k) ≡ OptionPictureStructure.Some k
+pub structure_back : (k : PictureStructure) → structure_from (structure_number k) ≡ Some k
 structure_back PictureStructure.TopField = refl
 structure_back PictureStructure.BottomField = refl
 structure_back PictureStructure.Frame = refl
 
-pub structure_none : (n : ℕ) → 3 ≤ n → structure_from n ≡ OptionPictureStructure.None
+pub structure_none : (n : ℕ) → 3 ≤ n → structure_from n ≡ None
 structure_none n h = rw (ne_eqb n 0 (λ e. absurd (omega arith)), ne_eqb n 1 (λ e. absurd (omega arith)), ne_eqb n 2 (λ e. absurd (omega arith)))
 
-pub type_back : (k : PredictionType) → type_from (type_number k) ≡ OptionPredictionType.Some k
+pub type_back : (k : PredictionType) → type_from (type_number k) ≡ Some k
 type_back PredictionType.FieldBased = refl
 type_back PredictionType.FrameBased = refl
 type_back PredictionType.SixteenByEight = refl
 type_back PredictionType.DualPrime = refl
 
-pub type_none : (n : ℕ) → 4 ≤ n → type_from n ≡ OptionPredictionType.None
+pub type_none : (n : ℕ) → 4 ≤ n → type_from n ≡ None
 type_none n h = rw (ne_eqb n 0 (λ e. absurd (omega arith)), ne_eqb n 1 (λ e. absurd (omega arith)), ne_eqb n 2 (λ e. absurd (omega arith)), ne_eqb n 3 (λ e. absurd (omega arith)))
 
-pub chroma_back : (k : ChromaFormat) → chroma_from (chroma_number k) ≡ OptionChromaFormat.Some k
+pub chroma_back : (k : ChromaFormat) → chroma_from (chroma_number k) ≡ Some k
 chroma_back ChromaFormat.Yuv420 = refl
 chroma_back ChromaFormat.Yuv422 = refl
 chroma_back ChromaFormat.Yuv444 = refl
 
-pub chroma_none : (n : ℕ) → 3 ≤ n → chroma_from n ≡ OptionChromaFormat.None
+pub chroma_none : (n : ℕ) → 3 ≤ n → chroma_from n ≡ None
 chroma_none n h = rw (ne_eqb n 0 (λ e. absurd (omega arith)), ne_eqb n 1 (λ e. absurd (omega arith)), ne_eqb n 2 (λ e. absurd (omega arith)))
 
-pub parity_back : (k : FieldParity) → parity_from (parity_row k) ≡ OptionFieldParity.Some k
+pub parity_back : (k : FieldParity) → parity_from (parity_row k) ≡ Some k
 parity_back Top = refl
 parity_back Bottom = refl
 
-pub parity_none : (n : ℕ) → 2 ≤ n → parity_from n ≡ OptionFieldParity.None
+pub parity_none : (n : ℕ) → 2 ≤ n → parity_from n ≡ None
 parity_none n h = rw (ne_eqb n 0 (λ e. absurd (omega arith)), ne_eqb n 1 (λ e. absurd (omega arith)))
 
-pub flag_back : (flag_from 0 ≡ OptionFlag.Some false) × (flag_from 1 ≡ OptionFlag.Some true)
+pub flag_back : (flag_from 0 ≡ Some false) × (flag_from 1 ≡ Some true)
 flag_back = (refl, refl)
 
-pub flag_none : (n : ℕ) → 2 ≤ n → flag_from n ≡ OptionFlag.None
+pub flag_none : (n : ℕ) → 2 ≤ n → flag_from n ≡ None
 flag_none n h = rw (ne_eqb n 0 (λ e. absurd (omega arith)), ne_eqb n 1 (λ e. absurd (omega arith)))

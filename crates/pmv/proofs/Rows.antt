@@ -9,19 +9,18 @@ use borrow.Author.Tests.{lt-ltb}
 use lib.Dec.{T, ltb, eqb, eqb→eq}
 use lib.IntN.{ℤ, pos}
 use lib.ListN.{length, get_or}
-use Rattle.combine_predictions.specs.Refusals.{unless_refused}
-use Rattle.pmv.specs.Answers.{update_answer}
+use Rattle.std.specs.Prelude.{Option, Some, None, Result, Ok, Err}
+use Rattle.combine_predictions.specs.Refusals.{answered, unless_refused}
+use Rattle.pmv.specs.Refusals.{update_number}
 use Rattle.pmv.specs.Update.{decided_refusal, decided_outcome, outcome_number, after}
-use Rattle.pmv.specs.inner.Rows.{outcomes, row_for, outcome_of, answer_of, has, written, carried_out}
+use Rattle.pmv.specs.inner.Rows.{outcomes, row_for, outcome_of, refusal_of, answer_of, has, written, carried_out}
 use Rattle.pmv.specs.declared.kinds.PredictionType.{PredictionType}
 use Rattle.pmv.specs.declared.kinds.PredictionType.TheVariants.{FieldBased, FrameBased, SixteenByEight, DualPrime}
-use Rattle.pmv.specs.declared.kinds.MotionType.{MotionType}
-use Rattle.pmv.specs.declared.kinds.MotionType.TheVariants.{Absent, Present}
 use Rattle.pmv.specs.declared.predictors.Pmv.{Pmv}
 use Rattle.pmv.specs.declared.update.PmvUpdateOutcome.{PmvUpdateOutcome}
 use Rattle.pmv.specs.declared.update.PmvUpdateOutcome.TheVariants as O
-use Rattle.pmv.specs.declared.update.Updated.{Updated}
-use Rattle.pmv.specs.declared.update.Updated.TheVariants.{Outcome, Refused}
+use Rattle.pmv.specs.declared.update.UpdateRefusal.{UpdateRefusal}
+use Rattle.pmv.specs.declared.update.UpdateRefusal.TheVariants as R
 use Rattle.pmv.proofs.Lists.{listed_eight}
 
 -- ---- a test that is passed at each flag and at each type, absent or not
@@ -62,85 +61,82 @@ types_at f t p = at p
     at SixteenByEight = left (f SixteenByEight) (f DualPrime) second
     at DualPrime = right (f SixteenByEight) (f DualPrime) second
 
-motions : (MotionType → Bool) → Bool
-motions f = both (f Absent) (types (λ t. f (Present t)))
+motions : (Option PredictionType → Bool) → Bool
+motions f = both (f None) (types (λ t. f (Some t)))
 
-motions_at : (f : MotionType → Bool) → T (motions f) → (m : MotionType) → T (f m)
+motions_at : (f : Option PredictionType → Bool) → T (motions f) → (m : Option PredictionType) → T (f m)
 unfolding motions
-motions_at f t Absent = left (f Absent) (types (λ t. f (Present t))) t
-motions_at f t (Present p) = types_at (λ t. f (Present t)) (right (f Absent) (types (λ t. f (Present t))) t) p
+motions_at f t None = left (f None) (types (λ t. f (Some t))) t
+motions_at f t (Some p) = types_at (λ t. f (Some t)) (right (f None) (types (λ t. f (Some t))) t) p
 
 -- ---- answers as numbers, so that a test can compare them
-abbrev code_of : Updated → ℕ
-code_of (Outcome o) = outcome_number o
-code_of (Refused n) = 16 + n
+abbrev Answer : Type 0
+Answer = Result PmvUpdateOutcome UpdateRefusal
 
-updated_of : ℕ → Updated
-updated_of k =
-    pick (ltb 15 k) (Refused (k - 16))
-    (pick (eqb k 0) (Outcome O.IntraConcealmentCopyForwardFirst)
-    (pick (eqb k 1) (Outcome O.IntraResetAll)
-    (pick (eqb k 2) (Outcome O.NonIntraCopyBoth)
-    (pick (eqb k 3) (Outcome O.NonIntraCopyForward)
-    (pick (eqb k 4) (Outcome O.NonIntraCopyBackward)
-    (pick (eqb k 5) (Outcome O.NonIntraZeroMotionReset)
-    (pick (eqb k 6) (Outcome O.NoUpdate) (Outcome O.DualPrimeCopyForward))))))))
+abbrev code_of : Answer → ℕ
+code_of (Ok o) = outcome_number o
+code_of (Err r) = 16 + update_number r
+
+coded_answer : ℕ → Answer
+coded_answer k = pick (ltb 15 k) (Err (refusal_of (k - 16))) (Ok (outcome_of k))
   where
-    pick : Bool → Updated → Updated → Updated
+    pick : Bool → Answer → Answer → Answer
     pick true a b = a
     pick false a b = b
 
-code_back : (u : Updated) → updated_of (code_of u) ≡ u
-unfolding updated_of
-code_back (Outcome o) = at o
-  where
-    at : (o : PmvUpdateOutcome) → updated_of (outcome_number o) ≡ Outcome o
-    at O.IntraConcealmentCopyForwardFirst = refl
-    at O.IntraResetAll = refl
-    at O.NonIntraCopyBoth = refl
-    at O.NonIntraCopyForward = refl
-    at O.NonIntraCopyBackward = refl
-    at O.NonIntraZeroMotionReset = refl
-    at O.NoUpdate = refl
-    at O.DualPrimeCopyForward = refl
-code_back (Refused n) = let e : 16 + n - 16 ≡ n = omega arith in rw (lt-ltb 15 (16 + n) (omega arith), e)
+code_back : (u : Answer) → coded_answer (code_of u) ≡ u
+unfolding coded_answer outcome_of refusal_of
+code_back (Ok O.IntraConcealmentCopyForwardFirst) = refl
+code_back (Ok O.IntraResetAll) = refl
+code_back (Ok O.NonIntraCopyBoth) = refl
+code_back (Ok O.NonIntraCopyForward) = refl
+code_back (Ok O.NonIntraCopyBackward) = refl
+code_back (Ok O.NonIntraZeroMotionReset) = refl
+code_back (Ok O.NoUpdate) = refl
+code_back (Ok O.DualPrimeCopyForward) = refl
+code_back (Err R.IntraWithMotion) = refl
+code_back (Err R.TypeMissing) = refl
+code_back (Err R.FrameBasedInField) = refl
+code_back (Err R.SixteenByEightInFrame) = refl
+code_back (Err R.DualPrimeFlags) = refl
+code_back (Err R.NoneRowFlags) = refl
 
-same_code : (a b : Updated) → code_of a ≡ code_of b → a ≡ b
-same_code a b e = sym (code_back a) ∙ ap updated_of e ∙ code_back b
+same_code : (a b : Answer) → code_of a ≡ code_of b → a ≡ b
+same_code a b e = sym (code_back a) ∙ ap coded_answer e ∙ code_back b
 
 -- ---- what an answer does to the predictors
-abbrev zeroes : Updated → Bool
-zeroes (Outcome O.IntraConcealmentCopyForwardFirst) = false
-zeroes (Outcome O.IntraResetAll) = true
-zeroes (Outcome O.NonIntraCopyBoth) = false
-zeroes (Outcome O.NonIntraCopyForward) = false
-zeroes (Outcome O.NonIntraCopyBackward) = false
-zeroes (Outcome O.NonIntraZeroMotionReset) = true
-zeroes (Outcome O.NoUpdate) = false
-zeroes (Outcome O.DualPrimeCopyForward) = false
-zeroes (Refused n) = false
+abbrev zeroes : Answer → Bool
+zeroes (Ok O.IntraConcealmentCopyForwardFirst) = false
+zeroes (Ok O.IntraResetAll) = true
+zeroes (Ok O.NonIntraCopyBoth) = false
+zeroes (Ok O.NonIntraCopyForward) = false
+zeroes (Ok O.NonIntraCopyBackward) = false
+zeroes (Ok O.NonIntraZeroMotionReset) = true
+zeroes (Ok O.NoUpdate) = false
+zeroes (Ok O.DualPrimeCopyForward) = false
+zeroes (Err r) = false
 
-abbrev copies_forward : Updated → Bool
-copies_forward (Outcome O.IntraConcealmentCopyForwardFirst) = true
-copies_forward (Outcome O.IntraResetAll) = false
-copies_forward (Outcome O.NonIntraCopyBoth) = true
-copies_forward (Outcome O.NonIntraCopyForward) = true
-copies_forward (Outcome O.NonIntraCopyBackward) = false
-copies_forward (Outcome O.NonIntraZeroMotionReset) = false
-copies_forward (Outcome O.NoUpdate) = false
-copies_forward (Outcome O.DualPrimeCopyForward) = true
-copies_forward (Refused n) = false
+abbrev copies_forward : Answer → Bool
+copies_forward (Ok O.IntraConcealmentCopyForwardFirst) = true
+copies_forward (Ok O.IntraResetAll) = false
+copies_forward (Ok O.NonIntraCopyBoth) = true
+copies_forward (Ok O.NonIntraCopyForward) = true
+copies_forward (Ok O.NonIntraCopyBackward) = false
+copies_forward (Ok O.NonIntraZeroMotionReset) = false
+copies_forward (Ok O.NoUpdate) = false
+copies_forward (Ok O.DualPrimeCopyForward) = true
+copies_forward (Err r) = false
 
-abbrev copies_backward : Updated → Bool
-copies_backward (Outcome O.IntraConcealmentCopyForwardFirst) = false
-copies_backward (Outcome O.IntraResetAll) = false
-copies_backward (Outcome O.NonIntraCopyBoth) = true
-copies_backward (Outcome O.NonIntraCopyForward) = false
-copies_backward (Outcome O.NonIntraCopyBackward) = true
-copies_backward (Outcome O.NonIntraZeroMotionReset) = false
-copies_backward (Outcome O.NoUpdate) = false
-copies_backward (Outcome O.DualPrimeCopyForward) = false
-copies_backward (Refused n) = false
+abbrev copies_backward : Answer → Bool
+copies_backward (Ok O.IntraConcealmentCopyForwardFirst) = false
+copies_backward (Ok O.IntraResetAll) = false
+copies_backward (Ok O.NonIntraCopyBoth) = true
+copies_backward (Ok O.NonIntraCopyForward) = false
+copies_backward (Ok O.NonIntraCopyBackward) = true
+copies_backward (Ok O.NonIntraZeroMotionReset) = false
+copies_backward (Ok O.NoUpdate) = false
+copies_backward (Ok O.DualPrimeCopyForward) = false
+copies_backward (Err r) = false
 
 -- the eight, as the code writes them
 pub eight_written : (z f b : Bool) (l : List ℤ) {x0 x1 x2 x3 x4 x5 x6 x7 : ℤ}
@@ -159,7 +155,7 @@ eight_written z f b l p q r s t u w x = rw (p, q, r, s, t, u, w, x)
 -- they are those of the definition
 eight_after : (o : PmvUpdateOutcome) (x0 x1 x2 x3 x4 x5 x6 x7 : ℤ)
     → let l = x0 ∷ x1 ∷ x2 ∷ x3 ∷ x4 ∷ x5 ∷ x6 ∷ x7 ∷ [] in
-    written (zeroes (Outcome o)) (copies_forward (Outcome o)) (copies_backward (Outcome o)) l ≡ (after o (record { values = l })).values
+    written (zeroes (Ok o)) (copies_forward (Ok o)) (copies_backward (Ok o)) l ≡ (after o (record { values = l })).values
 unfolding written
 eight_after O.IntraConcealmentCopyForwardFirst x0 x1 x2 x3 x4 x5 x6 x7 = refl
 eight_after O.IntraResetAll x0 x1 x2 x3 x4 x5 x6 x7 = refl
@@ -170,14 +166,14 @@ eight_after O.NonIntraZeroMotionReset x0 x1 x2 x3 x4 x5 x6 x7 = refl
 eight_after O.NoUpdate x0 x1 x2 x3 x4 x5 x6 x7 = refl
 eight_after O.DualPrimeCopyForward x0 x1 x2 x3 x4 x5 x6 x7 = refl
 
-written_after : (m : ℕ) (o : PmvUpdateOutcome) (l : List ℤ) → length l ≡ 8
-    → let u = update_answer m o in
+written_after : (m : Option UpdateRefusal) (o : PmvUpdateOutcome) (l : List ℤ) → length l ≡ 8
+    → let u : Answer = answered m o in
     written (zeroes u) (copies_forward u) (copies_backward u) l ≡ (unless_refused m (after o (record { values = l })) (record { values = l })).values
 unfolding written
-written_after zero o l n =
+written_after None o l n =
     rw (listed_eight l n)
     at (eight_after o (get_or l 0 (pos 0)) (get_or l 1 (pos 0)) (get_or l 2 (pos 0)) (get_or l 3 (pos 0)) (get_or l 4 (pos 0)) (get_or l 5 (pos 0)) (get_or l 6 (pos 0)) (get_or l 7 (pos 0)))
-written_after (suc m) o l n = listed_eight l n
+written_after (Some r) o l n = listed_eight l n
 
 -- ---- the test
 same : Bool → Bool → Bool
@@ -193,23 +189,23 @@ same_eq true false t = absurd t
 same_eq false true t = absurd t
 same_eq false false t = refl
 
-abbrev ruled : Bool → MotionType → Bool → Bool → Bool → Bool → Updated
-ruled frame m f b i c = update_answer (decided_refusal frame m f b i) (decided_outcome frame m f b i c)
+abbrev ruled : Bool → Option PredictionType → Bool → Bool → Bool → Bool → Answer
+ruled frame m f b i c = answered (decided_refusal frame m f b i) (decided_outcome frame m f b i c)
 
 -- a row stands for the rule's answer, and does what that does
-abbrev stands : ℕ → Updated → Bool
+abbrev stands : ℕ → Answer → Bool
 stands row u =
     both (eqb (code_of (answer_of row)) (code_of u))
     (both (same (has row 4) (zeroes u)) (both (same (has row 1) (copies_forward u)) (same (has row 2) (copies_backward u))))
 
-right_row : Bool → MotionType → Bool → Bool → Bool → Bool → Bool
+right_row : Bool → Option PredictionType → Bool → Bool → Bool → Bool → Bool
 right_row frame m f b i c = stands (row_for frame m f b i c) (ruled frame m f b i c)
 
 all_right : T (flags (λ p. motions (λ m. flags (λ f. flags (λ b. flags (λ i. flags (λ c. right_row p m f b i c)))))))
-unfolding outcomes row_for outcome_of answer_of motions same right_row decided_refusal decided_outcome
+unfolding outcomes row_for outcome_of refusal_of answer_of motions same right_row decided_refusal decided_outcome
 all_right = tt
 
-agrees : (p : Bool) (m : MotionType) (f b i c : Bool) → T (stands (row_for p m f b i c) (ruled p m f b i c))
+agrees : (p : Bool) (m : Option PredictionType) (f b i c : Bool) → T (stands (row_for p m f b i c) (ruled p m f b i c))
 unfolding right_row
 agrees p m f b i c =
     flags_at (λ c. right_row p m f b i c)
@@ -220,11 +216,11 @@ agrees p m f b i c =
     (flags_at (λ p. motions (λ m. flags (λ f. flags (λ b. flags (λ i. flags (λ c. right_row p m f b i c)))))) all_right p) m) f) b) i) c
 
 -- ---- what it says of a row
-module _ (p : Bool) (m : MotionType) (f b i c : Bool) where
+module _ (p : Bool) (m : Option PredictionType) (f b i c : Bool) where
   abbrev row : ℕ
   row = row_for p m f b i c
 
-  abbrev u : Updated
+  abbrev u : Answer
   u = ruled p m f b i c
 
   abbrev number : Bool

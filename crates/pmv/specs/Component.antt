@@ -3,17 +3,17 @@
 -- accepted vector is in range and equals the prediction plus delta but for a multiple of range, and when 6 is given.
 -- The scope (docs/SCOPE.md): refusals 5 and 6, of what 7.6.3.1 only demands of a stream; one wrap and no remainder, of a sum that is the
 -- mathematical one for every prior; the new predictor is not tested.
-use Rattle.std.specs.Prelude.{Bool, not, ◌&&◌, cond, ℕ, ◌*◌, ℤ, pos, neg_ℤ, ◌+ℤ◌, ◌-ℤ◌, ◌*ℤ◌}
+use Rattle.std.specs.Prelude.{Bool, not, ◌&&◌, cond, ℕ, ◌*◌, ℤ, pos, neg_ℤ, ◌+ℤ◌, ◌-ℤ◌, ◌*ℤ◌, Option}
 use Rattle.std.specs.Int.Signed.{lt_z, le_z}
 use Rattle.combine_predictions.specs.Refusals.{cause, or_else}
 use Rattle.forming_predictions.specs.Splitting.{floor_half}
 use Rattle.pmv.specs.Kinds.{is_field_format, is_frame_picture, is_vertical}
-use Rattle.pmv.specs.Refusals.{delta_outside, vector_outside}
 use Rattle.pmv.specs.Delta.{scale, delta, residual_value, delta_refusal}
 use Rattle.pmv.specs.declared.kinds.MvFormat.{MvFormat}
 use Rattle.pmv.specs.declared.kinds.PictureStructure.{PictureStructure}
 use Rattle.pmv.specs.declared.kinds.Component.{Component}
-use Rattle.pmv.specs.declared.component.MotionResidual.{MotionResidual}
+use Rattle.pmv.specs.declared.component.VectorRefusal.{VectorRefusal}
+use Rattle.pmv.specs.declared.component.VectorRefusal.TheVariants.{DeltaOutside, VectorOutside}
 use Rattle.pmv.specs.declared.component.VectorRange.{VectorRange}
 use Rattle.pmv.specs.declared.component.ReconstructedComponent.{ReconstructedComponent}
 
@@ -64,21 +64,21 @@ from_delta b halved prior d =
     }
 
 -- 5, then 6: 7.6.3.1 demands both ranges of a stream, and refuses nothing
-unfoldable pub from_delta_refusal : VectorRange → Bool → ℤ → ℤ → ℕ
+unfoldable pub from_delta_refusal : VectorRange → Bool → ℤ → ℤ → Option VectorRefusal
 from_delta_refusal b halved prior d =
-    or_else (cause (not (in_range b d)) delta_outside)
-    (cause (not (in_range b (vector_of b halved prior d))) vector_outside)
+    or_else (cause (not (in_range b d)) DeltaOutside)
+    (cause (not (in_range b (vector_of b halved prior d))) VectorOutside)
 
 -- ---- a component, from what the stream has of it
 
-abbrev pub delta_of : ℕ → ℤ → MotionResidual → ℤ
+abbrev pub delta_of : ℕ → ℤ → Option ℕ → ℤ
 delta_of f_code code residual = delta (scale f_code) code (residual_value residual)
 
-abbrev pub component_of : ℕ → ℤ → MotionResidual → ℤ → Bool → ReconstructedComponent
+abbrev pub component_of : ℕ → ℤ → Option ℕ → ℤ → Bool → ReconstructedComponent
 component_of f_code code residual prior halved = from_delta (range_of (scale f_code)) halved prior (delta_of f_code code residual)
 
 -- 1, 2, 3 or 4, 5, 6
-abbrev pub component_refusal : ℕ → ℤ → MotionResidual → ℤ → Bool → ℕ
+abbrev pub component_refusal : ℕ → ℤ → Option ℕ → ℤ → Bool → Option VectorRefusal
 component_refusal f_code code residual prior halved =
     or_else (delta_refusal f_code code residual)
     (from_delta_refusal (range_of (scale f_code)) halved prior (delta_of f_code code residual))

@@ -1,11 +1,10 @@
 -- ISO/IEC 13818-2, 7.6.3.1, first part: from f_code, motion_code and motion_residual to f and delta, over whole numbers.
 -- The scope (docs/SCOPE.md): refusals 1 to 4 and their order; codes are -16 to 16; a residual is any byte, whatever the f_code.
-use Rattle.std.specs.Prelude.{Bool, true, false, not, ◌&&◌, ◌||◌, cond, ℕ, ◌+◌, ◌-◌, ◌*◌, ◌^◌, leb, eqb, ℤ, pos, negsuc, neg_ℤ, nat_abs}
+use Rattle.std.specs.Prelude.{Bool, true, false, not, ◌&&◌, ◌||◌, cond, ℕ, ◌+◌, ◌-◌, ◌*◌, ◌^◌, leb, eqb, ℤ, pos, negsuc, neg_ℤ, nat_abs, Option, is_some, unwrap_or}
 use Rattle.std.specs.Int.Signed.{lt_z, le_z}
 use Rattle.combine_predictions.specs.Refusals.{cause, or_else}
-use Rattle.pmv.specs.Refusals.{f_code_outside, code_outside, residual_forbidden, residual_missing}
-use Rattle.pmv.specs.declared.component.MotionResidual.{MotionResidual}
-use Rattle.pmv.specs.declared.component.MotionResidual.TheVariants.{Absent, Present}
+use Rattle.pmv.specs.declared.component.VectorRefusal.{VectorRefusal}
+use Rattle.pmv.specs.declared.component.VectorRefusal.TheVariants.{FCodeOutside, CodeOutside, ResidualForbidden, ResidualMissing}
 
 -- f = 1 << r_size, where r_size = f_code - 1
 unfoldable pub scale : ℕ → ℕ
@@ -29,14 +28,9 @@ delta f code residual = cond (is_plain f code) code (with_sign code (magnitude f
 
 -- ---- what is refused, in the scope's order
 
-abbrev pub residual_in : MotionResidual → Bool
-residual_in Absent = false
-residual_in (Present n) = true
-
 -- the residual's value, 0 for none: any byte, where the standard's has r_size bits
-abbrev pub residual_value : MotionResidual → ℕ
-residual_value Absent = 0
-residual_value (Present n) = n
+abbrev pub residual_value : Option ℕ → ℕ
+residual_value residual = unwrap_or residual 0
 
 -- 6.3.11: 1 to 9 are the f_codes of vectors, and 15 stands for none
 unfoldable pub f_code_fits : ℕ → Bool
@@ -47,19 +41,19 @@ unfoldable pub code_fits : ℤ → Bool
 code_fits code = le_z (negsuc 15) code && le_z code (pos 16)
 
 -- 3 or 4: the residual is there against the syntax, or is not there against it
-abbrev pub residual_refusal : Bool → MotionResidual → ℕ
+abbrev pub residual_refusal : Bool → Option ℕ → Option VectorRefusal
 residual_refusal plain residual =
-    or_else (cause (plain && residual_in residual) residual_forbidden)
-    (cause (not plain && not (residual_in residual)) residual_missing)
+    or_else (cause (plain && is_some residual) ResidualForbidden)
+    (cause (not plain && not (is_some residual)) ResidualMissing)
 
-abbrev pub f_code_refusal : ℕ → ℕ
-f_code_refusal f_code = cause (not (f_code_fits f_code)) f_code_outside
+abbrev pub f_code_refusal : ℕ → Option VectorRefusal
+f_code_refusal f_code = cause (not (f_code_fits f_code)) FCodeOutside
 
 -- 2, and 3 or 4; f is a parameter
-unfoldable pub code_refusal : ℕ → ℤ → MotionResidual → ℕ
+unfoldable pub code_refusal : ℕ → ℤ → Option ℕ → Option VectorRefusal
 code_refusal f code residual =
-    or_else (cause (not (code_fits code)) code_outside) (residual_refusal (is_plain f code) residual)
+    or_else (cause (not (code_fits code)) CodeOutside) (residual_refusal (is_plain f code) residual)
 
 -- 1, and those
-unfoldable pub delta_refusal : ℕ → ℤ → MotionResidual → ℕ
+unfoldable pub delta_refusal : ℕ → ℤ → Option ℕ → Option VectorRefusal
 delta_refusal f_code code residual = or_else (f_code_refusal f_code) (code_refusal (scale f_code) code residual)

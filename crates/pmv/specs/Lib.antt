@@ -8,5 +8,4 @@ pub mod Predictors
 pub mod Vector
 pub mod Update
 pub mod Chroma
-pub mod Answers
 pub mod inner

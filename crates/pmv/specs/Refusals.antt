@@ -1,50 +1,34 @@
--- The scope (docs/SCOPE.md, "When a call refuses"): the numbers of this layer. Nothing here is the standard's.
+-- The scope (docs/SCOPE.md, "When a call refuses"): the numbers of this layer's reasons. Nothing here is the standard's.
 use Rattle.std.specs.Prelude.{ℕ}
+use Rattle.pmv.specs.declared.component.VectorRefusal.{VectorRefusal}
+use Rattle.pmv.specs.declared.component.VectorRefusal.TheVariants.{FCodeOutside, CodeOutside, ResidualForbidden, ResidualMissing, DeltaOutside, VectorOutside}
+use Rattle.pmv.specs.declared.update.UpdateRefusal.{UpdateRefusal}
+use Rattle.pmv.specs.declared.update.UpdateRefusal.TheVariants.{IntraWithMotion, TypeMissing, FrameBasedInField, SixteenByEightInFrame, DualPrimeFlags, NoneRowFlags}
 
+abbrev pub vector_number : VectorRefusal → ℕ
 -- f_code outside 1..9
-abbrev pub f_code_outside : ℕ
-f_code_outside = 1
-
+vector_number FCodeOutside = 1
 -- motion_code outside -16..16
-abbrev pub code_outside : ℕ
-code_outside = 2
-
+vector_number CodeOutside = 2
 -- motion_residual is there, and the syntax has none
-abbrev pub residual_forbidden : ℕ
-residual_forbidden = 3
-
+vector_number ResidualForbidden = 3
 -- motion_residual is not there, and the syntax has one
-abbrev pub residual_missing : ℕ
-residual_missing = 4
-
+vector_number ResidualMissing = 4
 -- delta outside low..high
-abbrev pub delta_outside : ℕ
-delta_outside = 5
-
+vector_number DeltaOutside = 5
 -- the vector outside low..high after one wrap
-abbrev pub vector_outside : ℕ
-vector_outside = 6
+vector_number VectorOutside = 6
 
+abbrev pub update_number : UpdateRefusal → ℕ
 -- an intra macroblock with a motion flag
-abbrev pub intra_with_motion : ℕ
-intra_with_motion = 7
-
+update_number IntraWithMotion = 7
 -- not intra, and no motion type
-abbrev pub type_missing : ℕ
-type_missing = 8
-
+update_number TypeMissing = 8
 -- frame-based in a field picture
-abbrev pub frame_based_in_field : ℕ
-frame_based_in_field = 9
-
+update_number FrameBasedInField = 9
 -- 16 x 8 in a frame picture
-abbrev pub sixteen_by_eight_in_frame : ℕ
-sixteen_by_eight_in_frame = 10
-
+update_number SixteenByEightInFrame = 10
 -- dual prime, and the flags are not forward alone
-abbrev pub dual_prime_flags : ℕ
-dual_prime_flags = 11
-
+update_number DualPrimeFlags = 11
 -- a row "(none)" without a motion flag
-abbrev pub none_row_flags : ℕ
-none_row_flags = 12
+update_number NoneRowFlags = 12

@@ -2,18 +2,17 @@
 -- PMV[r][s][1:0] alone. What is refused of a component is a parameter.
 -- The scope (docs/SCOPE.md): the horizontal component is first, and stays stored where the vertical one is refused; `decode_motion_vector`
 -- never halves.
-use Rattle.std.specs.Prelude.{Bool, ℕ, ℤ}
-use Rattle.combine_predictions.specs.Refusals.{or_else, unless_refused}
+use Rattle.std.specs.Prelude.{Bool, ℕ, ℤ, Option}
+use Rattle.combine_predictions.specs.Refusals.{or_else, answered, unless_refused}
 use Rattle.pmv.specs.Component.{halves, component_of, component_refusal}
 use Rattle.pmv.specs.Predictors.{predictor, stored, pair_of, pair_stored}
-use Rattle.pmv.specs.Answers.{reconstructed_answer, vector_answer}
 use Rattle.pmv.specs.declared.kinds.VectorIndex.{VectorIndex}
 use Rattle.pmv.specs.declared.kinds.Direction.{Direction}
 use Rattle.pmv.specs.declared.kinds.Component.{Component}
 use Rattle.pmv.specs.declared.kinds.Component.TheVariants.{Horizontal, Vertical}
 use Rattle.pmv.specs.declared.kinds.MvFormat.{MvFormat}
 use Rattle.pmv.specs.declared.kinds.PictureStructure.{PictureStructure}
-use Rattle.pmv.specs.declared.component.MotionResidual.{MotionResidual}
+use Rattle.pmv.specs.declared.component.VectorRefusal.{VectorRefusal}
 use Rattle.pmv.specs.declared.component.ReconstructedComponent.{ReconstructedComponent}
 use Rattle.pmv.specs.declared.predictors.Pmv.{Pmv}
 use Rattle.pmv.specs.declared.predictors.PredictorPair.{PredictorPair}
@@ -23,41 +22,41 @@ use Rattle.pmv.specs.declared.vector.VectorComponents.{VectorComponents}
 use Rattle.pmv.specs.declared.vector.DecodedPair.{DecodedPair}
 use Rattle.pmv.specs.declared.vector.DecodedVector.{DecodedVector}
 
--- what is refused of f_code, motion_code, motion_residual, the predictor, and whether it is halved: 0 for none
+-- what is refused of f_code, motion_code, motion_residual, the predictor, and whether it is halved
 abbrev pub Reading : Type 0
-Reading = ℕ → ℤ → MotionResidual → ℤ → Bool → ℕ
+Reading = ℕ → ℤ → Option ℕ → ℤ → Bool → Option VectorRefusal
 
 -- the scope's
 abbrev pub ported : Reading
 ported = component_refusal
 
 -- ---- one component: PMV[r][s][t] is read and, unless the component is refused, stored
-module _ (pmv : Pmv) (r : VectorIndex) (s : Direction) (t : Component) (f_code : ℕ) (code : ℤ) (residual : MotionResidual) (halved : Bool) where
+module _ (pmv : Pmv) (r : VectorIndex) (s : Direction) (t : Component) (f_code : ℕ) (code : ℤ) (residual : Option ℕ) (halved : Bool) where
   abbrev pub part : ReconstructedComponent
   part = component_of f_code code residual (predictor pmv r s t) halved
 
-  abbrev pub part_refusal : Reading → ℕ
+  abbrev pub part_refusal : Reading → Option VectorRefusal
   part_refusal reading = reading f_code code residual (predictor pmv r s t) halved
 
   unfoldable pub decoded : Reading → DecodedComponent
   decoded reading =
       record {
-        answer = reconstructed_answer (part_refusal reading) part;
+        answer = answered (part_refusal reading) part;
         pmv = unless_refused (part_refusal reading) (stored pmv r s t part.new_pmv) pmv;
       }
 
 -- ---- a vector against its two predictors: the horizontal component first, then the vertical one
 module _ (prior : PredictorPair) (mv : MotionVector) (fh fv : ℕ) (format : MvFormat) (picture : PictureStructure) where
-  abbrev pub horizontal_refusal : Reading → ℕ
+  abbrev pub horizontal_refusal : Reading → Option VectorRefusal
   horizontal_refusal reading =
       reading fh mv.motion_code_horiz mv.motion_residual_horiz prior.horizontal (halves format picture Horizontal)
 
-  abbrev pub vertical_refusal : Reading → ℕ
+  abbrev pub vertical_refusal : Reading → Option VectorRefusal
   vertical_refusal reading =
       reading fv mv.motion_code_vert mv.motion_residual_vert prior.vertical (halves format picture Vertical)
 
   -- the horizontal component's, then the vertical one's
-  abbrev pub vector_refusal : Reading → ℕ
+  abbrev pub vector_refusal : Reading → Option VectorRefusal
   vector_refusal reading = or_else (horizontal_refusal reading) (vertical_refusal reading)
 
   abbrev pub components : VectorComponents
@@ -76,7 +75,7 @@ module _ (prior : PredictorPair) (mv : MotionVector) (fh fv : ℕ) (format : MvF
       }
 
   unfoldable pub reconstructed_pair : Reading → DecodedPair
-  reconstructed_pair reading = record { answer = vector_answer (vector_refusal reading) components; predictors = pair_after reading }
+  reconstructed_pair reading = record { answer = answered (vector_refusal reading) components; predictors = pair_after reading }
 
 -- ---- a vector against all predictors: PMV[r][s][1:0] is read, and stored
 module _ (pmv : Pmv) (mv : MotionVector) (r : VectorIndex) (s : Direction) (fh fv : ℕ) (format : MvFormat) (picture : PictureStructure) where

@@ -5,7 +5,7 @@ ghost use Rattle.pmv.specs.Chroma.{trunc_half, scaled};
 use crate::kinds::ChromaFormat;
 
 /// A luminance vector and the chrominance vector that it gives, in half samples of each.
-#[derive(Clone, Copy)]
+#[derive(Clone, Copy, Debug, PartialEq, Eq)]
 pub struct ScaledMotionVector {
     pub luma_horiz: i32,
     pub luma_vert: i32,
@@ -14,6 +14,7 @@ pub struct ScaledMotionVector {
 }
 
 /// Half, truncated towards zero: a division, since a shift would floor.
+#[tactic(auto, using(crate::proofs::Chrominance::trunc_is, crate::proofs::Chrominance::trunc_fits))]
 fn half(v: i32) -> i32
     ensures { result ≡ trunc_half v }
 {
@@ -21,6 +22,7 @@ fn half(v: i32) -> i32
 }
 
 /// The chrominance vector of a luminance vector: both components halved for 4:2:0, the horizontal one for 4:2:2, none for 4:4:4.
+#[tactic(auto, unfolding(crate::specs::Chroma::scaled))]
 pub fn scale_chroma(luma_horiz: i32, luma_vert: i32, chroma: ChromaFormat) -> ScaledMotionVector
     ensures { result ≡ scaled luma_horiz luma_vert chroma }
 {

@@ -1,58 +1,50 @@
 //! ISO/IEC 13818-2, 7.6.3.1: one component of a motion vector, in half samples.
-ghost use Rattle.std.specs.Prelude.{◌≡◌, false, ◌+◌, ◌≤◌, nat_abs, ◌+ℤ◌, ◌-ℤ◌};
+ghost use Rattle.std.specs.Prelude.{◌≡◌, false, ◌+◌, ◌≤◌, nat_abs, ◌+ℤ◌, ◌-ℤ◌, Some, None};
+ghost use Rattle.std.specs.Result.{result_ok, result_err};
 ghost use Rattle.laws.proofs.Bounded.{Within};
-ghost use Rattle.forming_predictions.specs.SampleAnswers.{value_unless};
+ghost use Rattle.combine_predictions.specs.Refusals.{answered, value_unless};
+ghost use Rattle.pmv.specs.Refusals.{vector_number};
 ghost use Rattle.pmv.specs.Delta.{scale, is_plain, with_sign, delta, f_code_fits, code_fits, residual_refusal, f_code_refusal, delta_refusal};
 ghost use Rattle.pmv.specs.Component.{range_of, in_range, halves, prediction, raised, lowered, vector_of, new_predictor, from_delta, from_delta_refusal, delta_of, component_of, component_refusal};
-ghost use Rattle.pmv.specs.Answers.{delta_answer, delta_number, delta_value, range_answer, range_number, range_value, reconstructed_answer, reconstructed_number, reconstructed_value};
 ghost use Rattle.pmv.specs.inner.Bounds.{Small};
 
 use crate::kinds::{Component, MvFormat, PictureStructure};
 
-/// Refusal: f_code outside 1..9.
-pub const F_CODE_OUTSIDE: u8 = 1;
-/// Refusal: motion_code outside -16..16.
-pub const CODE_OUTSIDE: u8 = 2;
-/// Refusal: a motion_residual where the syntax has none.
-pub const RESIDUAL_FORBIDDEN: u8 = 3;
-/// Refusal: no motion_residual where the syntax has one.
-pub const RESIDUAL_MISSING: u8 = 4;
-/// Refusal: delta outside low..high.
-pub const DELTA_OUTSIDE: u8 = 5;
-/// Refusal: the vector is outside low..high after one wrap.
-pub const VECTOR_OUTSIDE: u8 = 6;
-
-/// `motion_residual`, where it is there.
-#[derive(Clone, Copy)]
-pub enum MotionResidual {
-    Absent,
-    Present(u8),
+/// Why a component is refused. Each reason has its number of docs/SCOPE.md.
+#[derive(Clone, Copy, Debug, PartialEq, Eq)]
+pub enum VectorRefusal {
+    /// f_code outside 1..9.
+    FCodeOutside = 1,
+    /// motion_code outside -16..16.
+    CodeOutside = 2,
+    /// A motion_residual where the syntax has none.
+    ResidualForbidden = 3,
+    /// No motion_residual where the syntax has one.
+    ResidualMissing = 4,
+    /// delta outside low..high.
+    DeltaOutside = 5,
+    /// The vector is outside low..high after one wrap.
+    VectorOutside = 6,
 }
 
-/// A delta, or the number of the refusal.
-#[derive(Clone, Copy)]
-pub enum ComputedDelta {
-    Delta(i32),
-    Refused(u8),
+impl From<VectorRefusal> for u32 {
+    ghost from_gives = { λ refusal number. number ≡ vector_number refusal };
+
+    fn from(refusal: VectorRefusal) -> u32 {
+        refusal as u32
+    }
 }
 
 /// The ends of the range of vectors, and how many numbers it has.
-#[derive(Clone, Copy)]
+#[derive(Clone, Copy, Debug, PartialEq, Eq)]
 pub struct VectorRange {
     pub low: i32,
     pub high: i32,
     pub range: i32,
 }
 
-/// A range, or the number of the refusal.
-#[derive(Clone, Copy)]
-pub enum FoundRange {
-    Range(VectorRange),
-    Refused(u8),
-}
-
 /// A component of a vector, the predictor to be stored, and what they were made of.
-#[derive(Clone, Copy)]
+#[derive(Clone, Copy, Debug, PartialEq, Eq)]
 pub struct ReconstructedComponent {
     pub vector_prime: i32,
     pub new_pmv: i32,
@@ -60,29 +52,24 @@ pub struct ReconstructedComponent {
     pub range: i32,
 }
 
-/// A component, or the number of the refusal.
-#[derive(Clone, Copy)]
-pub enum Reconstructed {
-    Component(ReconstructedComponent),
-    Refused(u8),
-}
-
 // ---- delta
 
 /// f, which is 2 to the power f_code - 1.
 fn scale_of(f_code: u8) -> u32
-    requires { f_code_refusal f_code ≡ 0 }
+    requires { f_code_refusal f_code ≡ None }
     ensures { (result ≡ scale f_code) × (1 ≤ result) × (result ≤ 256) }
 {
     1 << (f_code - 1)
 }
 
+#[tactic(auto, unfolding(crate::specs::Delta::f_code_fits))]
 fn f_code_fits(f_code: u8) -> bool
     ensures { result ≡ f_code_fits f_code }
 {
     (1 <= f_code) & (f_code <= 9)
 }
 
+#[tactic(auto, unfolding(crate::specs::Delta::code_fits))]
 fn code_fits(motion_code: i32) -> bool
     ensures { result ≡ code_fits motion_code }
 {
@@ -90,6 +77,7 @@ fn code_fits(motion_code: i32) -> bool
 }
 
 /// Whether delta is the code, and there is no residual.
+#[tactic(auto, using(crate::proofs::Deltas::plain_bits))]
 fn is_plain(f: u32, motion_code: i32) -> bool
     ensures { result ≡ is_plain f motion_code }
 {
@@ -119,6 +107,7 @@ fn with_sign(motion_code: i32, m: u32) -> i32
 }
 
 /// delta of a code that is not plain.
+#[tactic(auto, using(crate::proofs::Deltas::not_plain), unfolding(crate::specs::Delta::delta))]
 fn scaled_delta(motion_code: i32, residual: u32, f: u32) -> i32
     requires { Within 16 motion_code × (residual ≤ 255) × (f ≤ 256) × (is_plain f motion_code ≡ false) }
     ensures { result ≡ delta f motion_code residual }
@@ -127,45 +116,51 @@ fn scaled_delta(motion_code: i32, residual: u32, f: u32) -> i32
 }
 
 /// delta where there is no residual. f is asked for first: where it is 1, no jump depends on the code.
-fn delta_without(motion_code: i32, f: u32) -> ComputedDelta
-    ensures { result ≡ delta_answer (residual_refusal (is_plain f motion_code) MotionResidual.Absent) (delta f motion_code 0) }
+#[tactic(auto, unfolding(crate::specs::Delta::is_plain, crate::specs::Delta::delta))]
+fn delta_without(motion_code: i32, f: u32) -> Result<i32, VectorRefusal>
+    ensures { result ≡ answered (residual_refusal (is_plain f motion_code) None) (delta f motion_code 0) }
 {
     if f == 1 {
-        return ComputedDelta::Delta(motion_code);
+        return Ok(motion_code);
     }
     if motion_code == 0 {
-        return ComputedDelta::Delta(motion_code);
+        return Ok(motion_code);
     }
-    ComputedDelta::Refused(RESIDUAL_MISSING)
+    Err(VectorRefusal::ResidualMissing)
 }
 
 /// delta where there is one.
-fn delta_with(motion_code: i32, residual: u8, f: u32) -> ComputedDelta
+fn delta_with(motion_code: i32, residual: u8, f: u32) -> Result<i32, VectorRefusal>
     requires { Within 16 motion_code × (f ≤ 256) }
-    ensures { result ≡ delta_answer (residual_refusal (is_plain f motion_code) (MotionResidual.Present residual)) (delta f motion_code residual) }
+    ensures { result ≡ answered (residual_refusal (is_plain f motion_code) (Some residual)) (delta f motion_code residual) }
 {
     if is_plain(f, motion_code) {
-        return ComputedDelta::Refused(RESIDUAL_FORBIDDEN);
+        return Err(VectorRefusal::ResidualForbidden);
     }
-    ComputedDelta::Delta(scaled_delta(motion_code, residual as u32, f))
+    Ok(scaled_delta(motion_code, residual as u32, f))
 }
 
 /// How far a component is from its prediction, in half samples.
-pub fn compute_delta(motion_code: i32, motion_residual: MotionResidual, f_code: u8) -> ComputedDelta
-    ensures answer { result ≡ delta_answer (delta_refusal f_code motion_code motion_residual) (delta_of f_code motion_code motion_residual) }
-    ensures number { delta_number result ≡ delta_refusal f_code motion_code motion_residual }
-    ensures value { delta_value result ≡ value_unless (delta_number result) (delta_of f_code motion_code motion_residual) }
+#[tactic(auto, using(crate::proofs::Deltas::code_within), unfolding(crate::specs::Delta::code_refusal, crate::specs::Delta::delta_refusal))]
+pub fn compute_delta(
+    motion_code: i32,
+    motion_residual: Option<u8>,
+    f_code: u8,
+) -> Result<i32, VectorRefusal>
+    ensures answer { result ≡ answered (delta_refusal f_code motion_code motion_residual) (delta_of f_code motion_code motion_residual) }
+    ensures refusal { result_err result ≡ delta_refusal f_code motion_code motion_residual }
+    ensures value { result_ok result ≡ value_unless (result_err result) (delta_of f_code motion_code motion_residual) }
 {
     if !f_code_fits(f_code) {
-        return ComputedDelta::Refused(F_CODE_OUTSIDE);
+        return Err(VectorRefusal::FCodeOutside);
     }
     if !code_fits(motion_code) {
-        return ComputedDelta::Refused(CODE_OUTSIDE);
+        return Err(VectorRefusal::CodeOutside);
     }
     let f = scale_of(f_code);
     match motion_residual {
-        MotionResidual::Absent => delta_without(motion_code, f),
-        MotionResidual::Present(residual) => delta_with(motion_code, residual, f),
+        None => delta_without(motion_code, f),
+        Some(residual) => delta_with(motion_code, residual, f),
     }
 }
 
@@ -185,15 +180,15 @@ fn range_of(f: u32) -> VectorRange
 }
 
 /// The range of vectors that an f_code gives.
-pub fn vector_range(f_code: u8) -> FoundRange
-    ensures answer { result ≡ range_answer (f_code_refusal f_code) (range_of (scale f_code)) }
-    ensures number { range_number result ≡ f_code_refusal f_code }
-    ensures value { range_value result ≡ value_unless (range_number result) (range_of (scale f_code)) }
+pub fn vector_range(f_code: u8) -> Result<VectorRange, VectorRefusal>
+    ensures answer { result ≡ answered (f_code_refusal f_code) (range_of (scale f_code)) }
+    ensures refusal { result_err result ≡ f_code_refusal f_code }
+    ensures value { result_ok result ≡ value_unless (result_err result) (range_of (scale f_code)) }
 {
     if !f_code_fits(f_code) {
-        return FoundRange::Refused(F_CODE_OUTSIDE);
+        return Err(VectorRefusal::FCodeOutside);
     }
-    FoundRange::Range(range_of(scale_of(f_code)))
+    Ok(range_of(scale_of(f_code)))
 }
 
 /// How far v is above low: by it, one comparison tests both ends.
@@ -204,6 +199,7 @@ fn above_low(b: VectorRange, v: i64) -> i64
     v - b.low as i64
 }
 
+#[tactic(auto, using(crate::proofs::Ranges::range_fits, crate::proofs::Ranges::from_low, crate::proofs::Ranges::to_high, laws::proofs::Bits::widened))]
 fn in_range(b: VectorRange, v: i64) -> bool
     requires { Small b × Within 4294983680 v }
     ensures { result ≡ in_range b v }
@@ -215,6 +211,7 @@ fn in_range(b: VectorRange, v: i64) -> bool
 // ---- a component
 
 /// Whether the predictor counts frame lines and the vector field lines.
+#[tactic(auto, unfolding(crate::specs::Component::halves))]
 fn halves_prediction(mv_format: MvFormat, picture: PictureStructure, t: Component) -> bool
     ensures { result ≡ halves mv_format picture t }
 {
@@ -222,6 +219,7 @@ fn halves_prediction(mv_format: MvFormat, picture: PictureStructure, t: Componen
 }
 
 /// The prior predictor, or its half, floored: a shift, since division would truncate.
+#[tactic(auto, using(forming_predictions::proofs::Splitting::half_is, forming_predictions::proofs::Splitting::floor_fits))]
 fn predicted(prior_pmv: i32, halved: bool) -> i32
     ensures { result ≡ prediction halved prior_pmv }
 {
@@ -259,6 +257,7 @@ fn lower(b: VectorRange, v: i64) -> i64
 }
 
 /// The vector before its last test.
+#[tactic(auto, unfolding(crate::specs::Component::wrapped))]
 fn wrap(b: VectorRange, prior_pmv: i32, halved: bool, offset: i32) -> i64
     requires { Small b }
     ensures { (result ≡ vector_of b halved prior_pmv offset) × Within 4294983680 result }
@@ -278,19 +277,24 @@ fn next_predictor(vector: i32, halved: bool) -> i32
 }
 
 /// A component from its delta.
-fn from_delta(b: VectorRange, halved: bool, prior_pmv: i32, offset: i32) -> Reconstructed
+fn from_delta(
+    b: VectorRange,
+    halved: bool,
+    prior_pmv: i32,
+    offset: i32,
+) -> Result<ReconstructedComponent, VectorRefusal>
     requires { Small b }
-    ensures { result ≡ reconstructed_answer (from_delta_refusal b halved prior_pmv offset) (from_delta b halved prior_pmv offset) }
+    ensures { result ≡ answered (from_delta_refusal b halved prior_pmv offset) (from_delta b halved prior_pmv offset) }
 {
     if !in_range(b, offset as i64) {
-        return Reconstructed::Refused(DELTA_OUTSIDE);
+        return Err(VectorRefusal::DeltaOutside);
     }
     let v = wrap(b, prior_pmv, halved, offset);
     if !in_range(b, v) {
-        return Reconstructed::Refused(VECTOR_OUTSIDE);
+        return Err(VectorRefusal::VectorOutside);
     }
     let vector = v as i32;
-    Reconstructed::Component(ReconstructedComponent {
+    Ok(ReconstructedComponent {
         vector_prime: vector,
         new_pmv: next_predictor(vector, halved),
         delta: offset,
@@ -299,27 +303,21 @@ fn from_delta(b: VectorRange, halved: bool, prior_pmv: i32, offset: i32) -> Reco
 }
 
 /// A component of a vector from what the stream has of it and the predictor PMV\[r\]\[s\]\[t\]. Nothing is stored.
+#[tactic(auto, unfolding(crate::specs::Delta::delta_refusal))]
 pub fn reconstruct_component(
     motion_code: i32,
-    motion_residual: MotionResidual,
+    motion_residual: Option<u8>,
     f_code: u8,
     prior_pmv: i32,
     mv_format: MvFormat,
     picture: PictureStructure,
     t: Component,
-) -> Reconstructed
-    ensures answer { result ≡ reconstructed_answer (component_refusal f_code motion_code motion_residual prior_pmv (halves mv_format picture t)) (component_of f_code motion_code motion_residual prior_pmv (halves mv_format picture t)) }
-    ensures number { reconstructed_number result ≡ component_refusal f_code motion_code motion_residual prior_pmv (halves mv_format picture t) }
-    ensures value { reconstructed_value result ≡ value_unless (reconstructed_number result) (component_of f_code motion_code motion_residual prior_pmv (halves mv_format picture t)) }
+) -> Result<ReconstructedComponent, VectorRefusal>
+    ensures answer { result ≡ answered (component_refusal f_code motion_code motion_residual prior_pmv (halves mv_format picture t)) (component_of f_code motion_code motion_residual prior_pmv (halves mv_format picture t)) }
+    ensures refusal { result_err result ≡ component_refusal f_code motion_code motion_residual prior_pmv (halves mv_format picture t) }
+    ensures value { result_ok result ≡ value_unless (result_err result) (component_of f_code motion_code motion_residual prior_pmv (halves mv_format picture t)) }
 {
     let halved = halves_prediction(mv_format, picture, t);
-    match compute_delta(motion_code, motion_residual, f_code) {
-        ComputedDelta::Refused(number) => Reconstructed::Refused(number),
-        ComputedDelta::Delta(delta) => from_delta(
-            range_of(scale_of(f_code)),
-            halved,
-            prior_pmv,
-            delta,
-        ),
-    }
+    let delta = compute_delta(motion_code, motion_residual, f_code)?;
+    from_delta(range_of(scale_of(f_code)), halved, prior_pmv, delta)
 }

@@ -1,76 +1,62 @@
 //! The kinds of things that choose how a vector is reconstructed and what becomes of the predictors. docs/SCOPE.md counts each from 0 in
 //! the order of its values; these are not the codes of the stream.
-ghost use Rattle.std.specs.Prelude.{◌≡◌};
-ghost use Rattle.pmv.specs.Kinds.{component_number, direction_number, direction_from, index_number, index_from, format_number, format_from, structure_number, structure_from, type_number, type_from, coding_number, chroma_number, chroma_from, parity_from, flag_from, index_known, index_or, direction_known, direction_or, format_known, format_or, structure_known, structure_or, type_known, type_or, chroma_known, chroma_or, parity_known, parity_or, flag_known, flag_or, is_vertical, is_field_format, is_frame_picture, is_inter_picture};
+ghost use Rattle.std.specs.Prelude.{◌≡◌, ok_or};
+ghost use Rattle.pmv.specs.Kinds.{component_number, direction_number, direction_from, index_number, index_from, format_number, format_from, structure_number, structure_from, type_number, type_from, coding_number, chroma_number, chroma_from, parity_from, flag_from, no_meaning, is_vertical, is_field_format, is_frame_picture, is_inter_picture};
 
 use forming_predictions::FieldParity;
+use std::error::Error;
+use std::fmt;
+
+/// A number that none of these kinds has.
+#[derive(Clone, Copy, Debug, PartialEq, Eq)]
+pub struct NoMeaning;
+
+impl fmt::Display for NoMeaning {
+    fn fmt<W: fmt::Write>(&self, f: &mut fmt::Formatter<W>) -> fmt::Result {
+        f.write_str("the number has no meaning")
+    }
+}
+
+impl Error for NoMeaning {}
 
 /// `t` of Table 7-7.
-#[derive(Clone, Copy)]
+#[derive(Clone, Copy, Debug, PartialEq, Eq)]
 pub enum Component {
     Horizontal,
     Vertical,
 }
 
 /// `s` of Table 7-7.
-#[derive(Clone, Copy)]
+#[derive(Clone, Copy, Debug, PartialEq, Eq)]
 pub enum Direction {
     Forward,
     Backward,
 }
 
-/// A Direction, where a number means one.
-#[derive(Clone, Copy)]
-pub enum OptionDirection {
-    None,
-    Some(Direction),
-}
-
 /// `r` of Table 7-7: the first or the second vector of a macroblock in one direction.
-#[derive(Clone, Copy)]
+#[derive(Clone, Copy, Debug, PartialEq, Eq)]
 pub enum VectorIndex {
     First,
     Second,
 }
 
-/// A VectorIndex, where a number means one.
-#[derive(Clone, Copy)]
-pub enum OptionVectorIndex {
-    None,
-    Some(VectorIndex),
-}
-
 /// `mv_format`: whether a vector is one of fields or of frames.
-#[derive(Clone, Copy)]
+#[derive(Clone, Copy, Debug, PartialEq, Eq)]
 pub enum MvFormat {
     Field,
     Frame,
 }
 
-/// A MvFormat, where a number means one.
-#[derive(Clone, Copy)]
-pub enum OptionMvFormat {
-    None,
-    Some(MvFormat),
-}
-
 /// `picture_structure`.
-#[derive(Clone, Copy)]
+#[derive(Clone, Copy, Debug, PartialEq, Eq)]
 pub enum PictureStructure {
     TopField,
     BottomField,
     Frame,
 }
 
-/// A PictureStructure, where a number means one.
-#[derive(Clone, Copy)]
-pub enum OptionPictureStructure {
-    None,
-    Some(PictureStructure),
-}
-
 /// What `frame_motion_type` or `field_motion_type` selects: Tables 6-17 and 6-18.
-#[derive(Clone, Copy)]
+#[derive(Clone, Copy, Debug, PartialEq, Eq)]
 pub enum PredictionType {
     FieldBased,
     FrameBased,
@@ -78,22 +64,8 @@ pub enum PredictionType {
     DualPrime,
 }
 
-/// A PredictionType, where a number means one.
-#[derive(Clone, Copy)]
-pub enum OptionPredictionType {
-    None,
-    Some(PredictionType),
-}
-
-/// `frame_motion_type` or `field_motion_type`, where a macroblock has one.
-#[derive(Clone, Copy)]
-pub enum MotionType {
-    Absent,
-    Present(PredictionType),
-}
-
 /// `picture_coding_type`.
-#[derive(Clone, Copy)]
+#[derive(Clone, Copy, Debug, PartialEq, Eq)]
 pub enum PictureCodingType {
     Intra,
     Predictive,
@@ -102,425 +74,184 @@ pub enum PictureCodingType {
 }
 
 /// `chroma_format`.
-#[derive(Clone, Copy)]
+#[derive(Clone, Copy, Debug, PartialEq, Eq)]
 pub enum ChromaFormat {
     Yuv420,
     Yuv422,
     Yuv444,
 }
 
-/// A ChromaFormat, where a number means one.
-#[derive(Clone, Copy)]
-pub enum OptionChromaFormat {
-    None,
-    Some(ChromaFormat),
+impl From<Component> for usize {
+    ghost from_gives = { λ kind number. number ≡ component_number kind };
+
+    fn from(kind: Component) -> usize {
+        kind as usize
+    }
 }
 
-/// A field's parity, where a number means one.
-#[derive(Clone, Copy)]
-pub enum OptionFieldParity {
-    None,
-    Some(FieldParity),
+impl From<Direction> for usize {
+    ghost from_gives = { λ kind number. number ≡ direction_number kind };
+
+    fn from(kind: Direction) -> usize {
+        kind as usize
+    }
 }
 
-/// Yes or no, where a number means one.
-#[derive(Clone, Copy)]
-pub enum OptionFlag {
-    None,
-    Some(bool),
-}
+impl TryFrom<u32> for Direction {
+    type Error = NoMeaning;
 
-impl Component {
-    /// Its number, as an index.
-    pub fn index(self) -> usize
-        ensures { result ≡ component_number self }
-    {
-        match self {
-            Component::Horizontal => 0,
-            Component::Vertical => 1,
+    ghost try_from_gives = { λ number answer. answer ≡ ok_or (direction_from number) no_meaning };
+
+    fn try_from(number: u32) -> Result<Self, NoMeaning> {
+        match number {
+            0 => Ok(Direction::Forward),
+            1 => Ok(Direction::Backward),
+            _ => Err(NoMeaning),
         }
     }
 }
 
-impl Direction {
-    /// Its number, as an index.
-    pub fn index(self) -> usize
-        ensures { result ≡ direction_number self }
-    {
-        match self {
-            Direction::Forward => 0,
-            Direction::Backward => 1,
-        }
-    }
+impl From<VectorIndex> for usize {
+    ghost from_gives = { λ kind number. number ≡ index_number kind };
 
-    /// The one with this number.
-    pub fn from_number(number: u32) -> OptionDirection
-        ensures { result ≡ direction_from number }
-    {
-        if number == 0 {
-            return OptionDirection::Some(Direction::Forward);
-        }
-        if number == 1 {
-            return OptionDirection::Some(Direction::Backward);
-        }
-        OptionDirection::None
+    fn from(kind: VectorIndex) -> usize {
+        kind as usize
     }
 }
 
-impl VectorIndex {
-    /// Its number, as an index.
-    pub fn index(self) -> usize
-        ensures { result ≡ index_number self }
-    {
-        match self {
-            VectorIndex::First => 0,
-            VectorIndex::Second => 1,
-        }
-    }
+impl TryFrom<u32> for VectorIndex {
+    type Error = NoMeaning;
 
-    /// The one with this number.
-    pub fn from_number(number: u32) -> OptionVectorIndex
-        ensures { result ≡ index_from number }
-    {
-        if number == 0 {
-            return OptionVectorIndex::Some(VectorIndex::First);
-        }
-        if number == 1 {
-            return OptionVectorIndex::Some(VectorIndex::Second);
-        }
-        OptionVectorIndex::None
-    }
-}
+    ghost try_from_gives = { λ number answer. answer ≡ ok_or (index_from number) no_meaning };
 
-impl MvFormat {
-    /// Its number.
-    pub fn number(self) -> u32
-        ensures { result ≡ format_number self }
-    {
-        match self {
-            MvFormat::Field => 0,
-            MvFormat::Frame => 1,
-        }
-    }
-
-    /// The one with this number.
-    pub fn from_number(number: u32) -> OptionMvFormat
-        ensures { result ≡ format_from number }
-    {
-        if number == 0 {
-            return OptionMvFormat::Some(MvFormat::Field);
-        }
-        if number == 1 {
-            return OptionMvFormat::Some(MvFormat::Frame);
-        }
-        OptionMvFormat::None
-    }
-}
-
-impl PictureStructure {
-    /// Its number.
-    pub fn number(self) -> u32
-        ensures { result ≡ structure_number self }
-    {
-        match self {
-            PictureStructure::TopField => 0,
-            PictureStructure::BottomField => 1,
-            PictureStructure::Frame => 2,
-        }
-    }
-
-    /// The one with this number.
-    pub fn from_number(number: u32) -> OptionPictureStructure
-        ensures { result ≡ structure_from number }
-    {
-        if number == 0 {
-            return OptionPictureStructure::Some(PictureStructure::TopField);
-        }
-        if number == 1 {
-            return OptionPictureStructure::Some(PictureStructure::BottomField);
-        }
-        if number == 2 {
-            return OptionPictureStructure::Some(PictureStructure::Frame);
-        }
-        OptionPictureStructure::None
-    }
-}
-
-impl PredictionType {
-    /// Its number.
-    pub fn number(self) -> u32
-        ensures { result ≡ type_number self }
-    {
-        match self {
-            PredictionType::FieldBased => 0,
-            PredictionType::FrameBased => 1,
-            PredictionType::SixteenByEight => 2,
-            PredictionType::DualPrime => 3,
-        }
-    }
-
-    /// The one with this number.
-    pub fn from_number(number: u32) -> OptionPredictionType
-        ensures { result ≡ type_from number }
-    {
-        if number == 0 {
-            return OptionPredictionType::Some(PredictionType::FieldBased);
-        }
-        if number == 1 {
-            return OptionPredictionType::Some(PredictionType::FrameBased);
-        }
-        if number == 2 {
-            return OptionPredictionType::Some(PredictionType::SixteenByEight);
-        }
-        if number == 3 {
-            return OptionPredictionType::Some(PredictionType::DualPrime);
-        }
-        OptionPredictionType::None
-    }
-}
-
-impl PictureCodingType {
-    /// Its number.
-    pub fn number(self) -> u32
-        ensures { result ≡ coding_number self }
-    {
-        match self {
-            PictureCodingType::Intra => 0,
-            PictureCodingType::Predictive => 1,
-            PictureCodingType::Bidirectional => 2,
-            PictureCodingType::DcIntra => 3,
+    fn try_from(number: u32) -> Result<Self, NoMeaning> {
+        match number {
+            0 => Ok(VectorIndex::First),
+            1 => Ok(VectorIndex::Second),
+            _ => Err(NoMeaning),
         }
     }
 }
 
-impl ChromaFormat {
-    /// Its number.
-    pub fn number(self) -> u32
-        ensures { result ≡ chroma_number self }
-    {
-        match self {
-            ChromaFormat::Yuv420 => 0,
-            ChromaFormat::Yuv422 => 1,
-            ChromaFormat::Yuv444 => 2,
-        }
-    }
+impl From<MvFormat> for u32 {
+    ghost from_gives = { λ kind number. number ≡ format_number kind };
 
-    /// The one with this number.
-    pub fn from_number(number: u32) -> OptionChromaFormat
-        ensures { result ≡ chroma_from number }
-    {
-        if number == 0 {
-            return OptionChromaFormat::Some(ChromaFormat::Yuv420);
-        }
-        if number == 1 {
-            return OptionChromaFormat::Some(ChromaFormat::Yuv422);
-        }
-        if number == 2 {
-            return OptionChromaFormat::Some(ChromaFormat::Yuv444);
-        }
-        OptionChromaFormat::None
+    fn from(kind: MvFormat) -> u32 {
+        kind as u32
     }
 }
 
-/// The parity with this number: the top field's is 0.
-pub fn parity_from_number(number: u32) -> OptionFieldParity
-    ensures { result ≡ parity_from number }
+impl TryFrom<u32> for MvFormat {
+    type Error = NoMeaning;
+
+    ghost try_from_gives = { λ number answer. answer ≡ ok_or (format_from number) no_meaning };
+
+    fn try_from(number: u32) -> Result<Self, NoMeaning> {
+        match number {
+            0 => Ok(MvFormat::Field),
+            1 => Ok(MvFormat::Frame),
+            _ => Err(NoMeaning),
+        }
+    }
+}
+
+impl From<PictureStructure> for u32 {
+    ghost from_gives = { λ kind number. number ≡ structure_number kind };
+
+    fn from(kind: PictureStructure) -> u32 {
+        kind as u32
+    }
+}
+
+impl TryFrom<u32> for PictureStructure {
+    type Error = NoMeaning;
+
+    ghost try_from_gives = { λ number answer. answer ≡ ok_or (structure_from number) no_meaning };
+
+    fn try_from(number: u32) -> Result<Self, NoMeaning> {
+        match number {
+            0 => Ok(PictureStructure::TopField),
+            1 => Ok(PictureStructure::BottomField),
+            2 => Ok(PictureStructure::Frame),
+            _ => Err(NoMeaning),
+        }
+    }
+}
+
+impl From<PredictionType> for u32 {
+    ghost from_gives = { λ kind number. number ≡ type_number kind };
+
+    fn from(kind: PredictionType) -> u32 {
+        kind as u32
+    }
+}
+
+impl TryFrom<u32> for PredictionType {
+    type Error = NoMeaning;
+
+    ghost try_from_gives = { λ number answer. answer ≡ ok_or (type_from number) no_meaning };
+
+    fn try_from(number: u32) -> Result<Self, NoMeaning> {
+        match number {
+            0 => Ok(PredictionType::FieldBased),
+            1 => Ok(PredictionType::FrameBased),
+            2 => Ok(PredictionType::SixteenByEight),
+            3 => Ok(PredictionType::DualPrime),
+            _ => Err(NoMeaning),
+        }
+    }
+}
+
+impl From<PictureCodingType> for u32 {
+    ghost from_gives = { λ kind number. number ≡ coding_number kind };
+
+    fn from(kind: PictureCodingType) -> u32 {
+        kind as u32
+    }
+}
+
+impl From<ChromaFormat> for u32 {
+    ghost from_gives = { λ kind number. number ≡ chroma_number kind };
+
+    fn from(kind: ChromaFormat) -> u32 {
+        kind as u32
+    }
+}
+
+impl TryFrom<u32> for ChromaFormat {
+    type Error = NoMeaning;
+
+    ghost try_from_gives = { λ number answer. answer ≡ ok_or (chroma_from number) no_meaning };
+
+    fn try_from(number: u32) -> Result<Self, NoMeaning> {
+        match number {
+            0 => Ok(ChromaFormat::Yuv420),
+            1 => Ok(ChromaFormat::Yuv422),
+            2 => Ok(ChromaFormat::Yuv444),
+            _ => Err(NoMeaning),
+        }
+    }
+}
+
+/// The parity with this number: the top field's is 0. A function, since neither FieldParity nor TryFrom is of this crate.
+pub fn parity_from_number(number: u32) -> Result<FieldParity, NoMeaning>
+    ensures { result ≡ ok_or (parity_from number) no_meaning }
 {
-    if number == 0 {
-        return OptionFieldParity::Some(FieldParity::Top);
+    match number {
+        0 => Ok(FieldParity::Top),
+        1 => Ok(FieldParity::Bottom),
+        _ => Err(NoMeaning),
     }
-    if number == 1 {
-        return OptionFieldParity::Some(FieldParity::Bottom);
-    }
-    OptionFieldParity::None
 }
 
-/// No is 0, yes is 1.
-pub fn flag_from_number(number: u32) -> OptionFlag
-    ensures { result ≡ flag_from number }
+/// No is 0, yes is 1. A function, since neither `bool` nor TryFrom is of this crate.
+pub fn flag_from_number(number: u32) -> Result<bool, NoMeaning>
+    ensures { result ≡ ok_or (flag_from number) no_meaning }
 {
-    if number == 0 {
-        return OptionFlag::Some(false);
-    }
-    if number == 1 {
-        return OptionFlag::Some(true);
-    }
-    OptionFlag::None
-}
-
-impl OptionVectorIndex {
-    /// Whether the number means one.
-    pub fn is_some(self) -> bool
-        ensures { result ≡ index_known self }
-    {
-        match self {
-            OptionVectorIndex::None => false,
-            OptionVectorIndex::Some(_) => true,
-        }
-    }
-
-    /// The one that it means, or else the first in order.
-    pub fn or_first(self) -> VectorIndex
-        ensures { result ≡ index_or self }
-    {
-        match self {
-            OptionVectorIndex::None => VectorIndex::First,
-            OptionVectorIndex::Some(kind) => kind,
-        }
-    }
-}
-
-impl OptionDirection {
-    /// Whether the number means one.
-    pub fn is_some(self) -> bool
-        ensures { result ≡ direction_known self }
-    {
-        match self {
-            OptionDirection::None => false,
-            OptionDirection::Some(_) => true,
-        }
-    }
-
-    /// The one that it means, or else the first in order.
-    pub fn or_first(self) -> Direction
-        ensures { result ≡ direction_or self }
-    {
-        match self {
-            OptionDirection::None => Direction::Forward,
-            OptionDirection::Some(kind) => kind,
-        }
-    }
-}
-
-impl OptionMvFormat {
-    /// Whether the number means one.
-    pub fn is_some(self) -> bool
-        ensures { result ≡ format_known self }
-    {
-        match self {
-            OptionMvFormat::None => false,
-            OptionMvFormat::Some(_) => true,
-        }
-    }
-
-    /// The one that it means, or else the first in order.
-    pub fn or_first(self) -> MvFormat
-        ensures { result ≡ format_or self }
-    {
-        match self {
-            OptionMvFormat::None => MvFormat::Field,
-            OptionMvFormat::Some(kind) => kind,
-        }
-    }
-}
-
-impl OptionPictureStructure {
-    /// Whether the number means one.
-    pub fn is_some(self) -> bool
-        ensures { result ≡ structure_known self }
-    {
-        match self {
-            OptionPictureStructure::None => false,
-            OptionPictureStructure::Some(_) => true,
-        }
-    }
-
-    /// The one that it means, or else the first in order.
-    pub fn or_first(self) -> PictureStructure
-        ensures { result ≡ structure_or self }
-    {
-        match self {
-            OptionPictureStructure::None => PictureStructure::TopField,
-            OptionPictureStructure::Some(kind) => kind,
-        }
-    }
-}
-
-impl OptionPredictionType {
-    /// Whether the number means one.
-    pub fn is_some(self) -> bool
-        ensures { result ≡ type_known self }
-    {
-        match self {
-            OptionPredictionType::None => false,
-            OptionPredictionType::Some(_) => true,
-        }
-    }
-
-    /// The one that it means, or else the first in order.
-    pub fn or_first(self) -> PredictionType
-        ensures { result ≡ type_or self }
-    {
-        match self {
-            OptionPredictionType::None => PredictionType::FieldBased,
-            OptionPredictionType::Some(kind) => kind,
-        }
-    }
-}
-
-impl OptionChromaFormat {
-    /// Whether the number means one.
-    pub fn is_some(self) -> bool
-        ensures { result ≡ chroma_known self }
-    {
-        match self {
-            OptionChromaFormat::None => false,
-            OptionChromaFormat::Some(_) => true,
-        }
-    }
-
-    /// The one that it means, or else the first in order.
-    pub fn or_first(self) -> ChromaFormat
-        ensures { result ≡ chroma_or self }
-    {
-        match self {
-            OptionChromaFormat::None => ChromaFormat::Yuv420,
-            OptionChromaFormat::Some(kind) => kind,
-        }
-    }
-}
-
-impl OptionFieldParity {
-    /// Whether the number means one.
-    pub fn is_some(self) -> bool
-        ensures { result ≡ parity_known self }
-    {
-        match self {
-            OptionFieldParity::None => false,
-            OptionFieldParity::Some(_) => true,
-        }
-    }
-
-    /// The one that it means, or else the first in order.
-    pub fn or_first(self) -> FieldParity
-        ensures { result ≡ parity_or self }
-    {
-        match self {
-            OptionFieldParity::None => FieldParity::Top,
-            OptionFieldParity::Some(kind) => kind,
-        }
-    }
-}
-
-impl OptionFlag {
-    /// Whether the number means one.
-    pub fn is_some(self) -> bool
-        ensures { result ≡ flag_known self }
-    {
-        match self {
-            OptionFlag::None => false,
-            OptionFlag::Some(_) => true,
-        }
-    }
-
-    /// The one that it means, or else no.
-    pub fn or_first(self) -> bool
-        ensures { result ≡ flag_or self }
-    {
-        match self {
-            OptionFlag::None => false,
-            OptionFlag::Some(kind) => kind,
-        }
+    match number {
+        0 => Ok(false),
+        1 => Ok(true),
+        _ => Err(NoMeaning),
     }
 }
 
@@ -528,10 +259,7 @@ impl Component {
     pub fn is_vertical(self) -> bool
         ensures { result ≡ is_vertical self }
     {
-        match self {
-            Component::Horizontal => false,
-            Component::Vertical => true,
-        }
+        self == Component::Vertical
     }
 }
 
@@ -539,10 +267,7 @@ impl MvFormat {
     pub fn is_field(self) -> bool
         ensures { result ≡ is_field_format self }
     {
-        match self {
-            MvFormat::Field => true,
-            MvFormat::Frame => false,
-        }
+        self == MvFormat::Field
     }
 }
 
@@ -550,11 +275,7 @@ impl PictureStructure {
     pub fn is_frame(self) -> bool
         ensures { result ≡ is_frame_picture self }
     {
-        match self {
-            PictureStructure::TopField => false,
-            PictureStructure::BottomField => false,
-            PictureStructure::Frame => true,
-        }
+        self == PictureStructure::Frame
     }
 }
 
@@ -563,11 +284,9 @@ impl PictureCodingType {
     pub fn is_inter(self) -> bool
         ensures { result ≡ is_inter_picture self }
     {
-        match self {
-            PictureCodingType::Intra => false,
-            PictureCodingType::Predictive => true,
-            PictureCodingType::Bidirectional => true,
-            PictureCodingType::DcIntra => false,
-        }
+        matches!(
+            self,
+            PictureCodingType::Predictive | PictureCodingType::Bidirectional
+        )
     }
 }

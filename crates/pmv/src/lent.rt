@@ -1,22 +1,23 @@
 //! ISO/IEC 13818-2, 7.6.3.1, 7.6.3.3, 7.6.3.4 and 7.7.5.1 once more, on predictors that are lent: a loop over macroblocks holds the record,
 //! and each call updates it there. A call here copies the record out, makes the call by value, and stores what that gives.
 ghost use Rattle.std.specs.Prelude.{◌≡◌, false};
-ghost use Rattle.forming_predictions.specs.SampleAnswers.{value_unless};
+ghost use Rattle.std.specs.Result.{result_ok, result_err};
+ghost use Rattle.combine_predictions.specs.Refusals.{value_unless};
 ghost use Rattle.pmv.specs.Predictors.{predictor, stored, pair_of, zeroed};
 ghost use Rattle.pmv.specs.Vector.{ported, part_refusal, part, decoded, vector_refusal, components, reconstructed};
 ghost use Rattle.pmv.specs.Update.{update_refusal, update_outcome, updated, spatial_temporal_reset};
-ghost use Rattle.pmv.specs.Answers.{reconstructed_number, reconstructed_value, vector_number, vector_value, update_number, update_value};
 
-use crate::component::{MotionResidual, Reconstructed};
+use crate::component::{ReconstructedComponent, VectorRefusal};
 use crate::kinds::{
     Component, Direction, MvFormat, PictureCodingType, PictureStructure, VectorIndex,
 };
 use crate::predictors::Pmv;
 use crate::update::{
-    PmvUpdateContext, Updated, spatial_temporal_reset_applied, updated_predictors,
+    PmvUpdateContext, PmvUpdateOutcome, UpdateRefusal, spatial_temporal_reset_applied,
+    updated_predictors,
 };
 use crate::vector::{
-    MotionVector, ReconstructedVector, decoded_motion_vector, reconstructed_motion_vector,
+    MotionVector, VectorComponents, decoded_motion_vector, reconstructed_motion_vector,
 };
 
 impl Pmv {
@@ -49,13 +50,13 @@ pub fn decode_motion_vector(
     s: Direction,
     t: Component,
     motion_code: i32,
-    motion_residual: MotionResidual,
+    motion_residual: Option<u8>,
     f_code: u8,
-) -> Reconstructed
+) -> Result<ReconstructedComponent, VectorRefusal>
     ensures answer { result ≡ (decoded pmv.old r s t f_code motion_code motion_residual false ported).answer }
     ensures predictors { pmv.new ≡ (decoded pmv.old r s t f_code motion_code motion_residual false ported).pmv }
-    ensures number { reconstructed_number result ≡ part_refusal pmv.old r s t f_code motion_code motion_residual false ported }
-    ensures value { reconstructed_value result ≡ value_unless (reconstructed_number result) (part pmv.old r s t f_code motion_code motion_residual false) }
+    ensures refusal { result_err result ≡ part_refusal pmv.old r s t f_code motion_code motion_residual false ported }
+    ensures value { result_ok result ≡ value_unless (result_err result) (part pmv.old r s t f_code motion_code motion_residual false) }
 {
     let d = decoded_motion_vector(*pmv, r, s, t, motion_code, motion_residual, f_code);
     *pmv = d.pmv;
@@ -72,11 +73,11 @@ pub fn reconstruct_motion_vector(
     f_code_vert: u8,
     mv_format: MvFormat,
     picture: PictureStructure,
-) -> ReconstructedVector
+) -> Result<VectorComponents, VectorRefusal>
     ensures answer { result ≡ (reconstructed pmv.old mv r s f_code_horiz f_code_vert mv_format picture ported).answer }
     ensures predictors { pmv.new ≡ (reconstructed pmv.old mv r s f_code_horiz f_code_vert mv_format picture ported).pmv }
-    ensures number { vector_number result ≡ vector_refusal (pair_of pmv.old r s) mv f_code_horiz f_code_vert mv_format picture ported }
-    ensures value { vector_value result ≡ value_unless (vector_number result) (components (pair_of pmv.old r s) mv f_code_horiz f_code_vert mv_format picture) }
+    ensures refusal { result_err result ≡ vector_refusal (pair_of pmv.old r s) mv f_code_horiz f_code_vert mv_format picture ported }
+    ensures value { result_ok result ≡ value_unless (result_err result) (components (pair_of pmv.old r s) mv f_code_horiz f_code_vert mv_format picture) }
 {
     let d = reconstructed_motion_vector(
         *pmv,
@@ -93,11 +94,14 @@ pub fn reconstruct_motion_vector(
 }
 
 /// What Tables 7-10 and 7-11 say becomes of the predictors after a macroblock. A refusal changes none.
-pub fn update_predictors(pmv: &mut Pmv, ctx: PmvUpdateContext) -> Updated
+pub fn update_predictors(
+    pmv: &mut Pmv,
+    ctx: PmvUpdateContext,
+) -> Result<PmvUpdateOutcome, UpdateRefusal>
     ensures answer { result ≡ (updated pmv.old ctx).answer }
     ensures predictors { pmv.new ≡ (updated pmv.old ctx).pmv }
-    ensures number { update_number result ≡ update_refusal ctx }
-    ensures value { update_value result ≡ value_unless (update_number result) (update_outcome ctx) }
+    ensures refusal { result_err result ≡ update_refusal ctx }
+    ensures value { result_ok result ≡ value_unless (result_err result) (update_outcome ctx) }
 {
     let u = updated_predictors(*pmv, ctx);
     *pmv = u.pmv;

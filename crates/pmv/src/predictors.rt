@@ -5,13 +5,13 @@ ghost use Rattle.pmv.specs.Predictors.{pmv_index, predictor, stored, pair_of, pa
 use crate::kinds::{Component, Direction, VectorIndex};
 
 /// The eight predictors in half samples: PMV\[r\]\[s\]\[t\] is at 4r + 2s + t.
-#[derive(Clone, Copy)]
+#[derive(Clone, Copy, Debug, PartialEq, Eq)]
 pub struct Pmv {
     pub values: [i32; 8],
 }
 
 /// PMV\[r\]\[s\]\[1:0\]: the two predictors of one vector.
-#[derive(Clone, Copy)]
+#[derive(Clone, Copy, Debug, PartialEq, Eq)]
 pub struct PredictorPair {
     pub horizontal: i32,
     pub vertical: i32,
@@ -21,7 +21,7 @@ pub struct PredictorPair {
 pub fn place_of(r: VectorIndex, s: Direction, t: Component) -> usize
     ensures { (result ≡ pmv_index r s t) × (result < 8) }
 {
-    r.index() * 4 + s.index() * 2 + t.index()
+    r as usize * 4 + s as usize * 2 + t as usize
 }
 
 /// What is at a place after `value` was put at place k.

@@ -2,31 +2,44 @@
 ghost use Rattle.std.specs.Prelude.{◌≡◌, cond, ◌≤◌};
 ghost use Rattle.pmv.specs.Kinds.{type_number};
 ghost use Rattle.pmv.specs.Update.{update_refusal, update_outcome, outcome_number, updated, spatial_temporal_reset};
-ghost use Rattle.forming_predictions.specs.SampleAnswers.{value_unless};
-ghost use Rattle.pmv.specs.Answers.{update_number, update_value};
-ghost use Rattle.pmv.specs.inner.Rows.{flag_number, table_row, type_or_any, is_absent, decided_row, outcome_of, answer_of, carried_out};
+ghost use Rattle.std.specs.Result.{result_ok, result_err};
+ghost use Rattle.combine_predictions.specs.Refusals.{value_unless};
+ghost use Rattle.pmv.specs.Refusals.{update_number};
+ghost use Rattle.pmv.specs.inner.Rows.{flag_number, table_row, decided_row, outcome_of, refusal_of, answer_of, carried_out};
 
-use crate::kinds::{MotionType, PictureCodingType, PictureStructure, PredictionType};
+use crate::kinds::{PictureCodingType, PictureStructure, PredictionType};
 use crate::predictors::Pmv;
 
-/// Refusal: an intra macroblock with a motion flag.
-pub const INTRA_WITH_MOTION: u8 = 7;
-/// Refusal: not intra, and no motion type.
-pub const TYPE_MISSING: u8 = 8;
-/// Refusal: frame-based in a field picture.
-pub const FRAME_BASED_IN_FIELD: u8 = 9;
-/// Refusal: 16 × 8 in a frame picture.
-pub const SIXTEEN_BY_EIGHT_IN_FRAME: u8 = 10;
-/// Refusal: dual prime, and the flags are not forward alone.
-pub const DUAL_PRIME_FLAGS: u8 = 11;
-/// Refusal: a row "(none)" without a motion flag.
-pub const NONE_ROW_FLAGS: u8 = 12;
+/// Why an update is refused. Each reason has its number of docs/SCOPE.md.
+#[derive(Clone, Copy, Debug, PartialEq, Eq)]
+pub enum UpdateRefusal {
+    /// An intra macroblock with a motion flag.
+    IntraWithMotion = 7,
+    /// Not intra, and no motion type.
+    TypeMissing = 8,
+    /// Frame-based in a field picture.
+    FrameBasedInField = 9,
+    /// 16 × 8 in a frame picture.
+    SixteenByEightInFrame = 10,
+    /// Dual prime, and the flags are not forward alone.
+    DualPrimeFlags = 11,
+    /// A row "(none)" without a motion flag.
+    NoneRowFlags = 12,
+}
+
+impl From<UpdateRefusal> for u32 {
+    ghost from_gives = { λ refusal number. number ≡ update_number refusal };
+
+    fn from(refusal: UpdateRefusal) -> u32 {
+        refusal as u32
+    }
+}
 
 /// What Tables 7-10 and 7-11 choose by.
-#[derive(Clone, Copy)]
+#[derive(Clone, Copy, Debug, PartialEq, Eq)]
 pub struct PmvUpdateContext {
     pub picture_structure: PictureStructure,
-    pub prediction_type: MotionType,
+    pub prediction_type: Option<PredictionType>,
     pub macroblock_motion_forward: bool,
     pub macroblock_motion_backward: bool,
     pub macroblock_intra: bool,
@@ -34,7 +47,7 @@ pub struct PmvUpdateContext {
 }
 
 /// Which row of the tables it was.
-#[derive(Clone, Copy)]
+#[derive(Clone, Copy, Debug, PartialEq, Eq)]
 pub enum PmvUpdateOutcome {
     /// Intra with concealment vectors: forward first to forward second.
     IntraConcealmentCopyForwardFirst,
@@ -52,22 +65,15 @@ pub enum PmvUpdateOutcome {
     DualPrimeCopyForward,
 }
 
-/// The row, or the number of the refusal.
-#[derive(Clone, Copy)]
-pub enum Updated {
-    Outcome(PmvUpdateOutcome),
-    Refused(u8),
-}
-
 /// The answer, and the predictors after the update.
-#[derive(Clone, Copy)]
+#[derive(Clone, Copy, Debug, PartialEq, Eq)]
 pub struct PredictorUpdate {
-    pub answer: Updated,
+    pub answer: Result<PmvUpdateOutcome, UpdateRefusal>,
     pub pmv: Pmv,
 }
 
 /// Whether the reset was made, and the predictors after it.
-#[derive(Clone, Copy)]
+#[derive(Clone, Copy, Debug, PartialEq, Eq)]
 pub struct SpatialTemporalReset {
     pub applied: bool,
     pub pmv: Pmv,
@@ -100,17 +106,17 @@ const UNCHANGED: u8 = 6 * 8;
 /// Dual prime.
 const DUAL_PRIME: u8 = 7 * 8 + COPIES_FORWARD;
 /// No row: refusal 7.
-const REFUSED_7: u8 = (16 + INTRA_WITH_MOTION) * 8;
+const REFUSED_7: u8 = (16 + UpdateRefusal::IntraWithMotion as u8) * 8;
 /// No row: refusal 8.
-const REFUSED_8: u8 = (16 + TYPE_MISSING) * 8;
+const REFUSED_8: u8 = (16 + UpdateRefusal::TypeMissing as u8) * 8;
 /// No row: refusal 9.
-const REFUSED_9: u8 = (16 + FRAME_BASED_IN_FIELD) * 8;
+const REFUSED_9: u8 = (16 + UpdateRefusal::FrameBasedInField as u8) * 8;
 /// No row: refusal 10.
-const REFUSED_10: u8 = (16 + SIXTEEN_BY_EIGHT_IN_FRAME) * 8;
+const REFUSED_10: u8 = (16 + UpdateRefusal::SixteenByEightInFrame as u8) * 8;
 /// No row: refusal 11.
-const REFUSED_11: u8 = (16 + DUAL_PRIME_FLAGS) * 8;
+const REFUSED_11: u8 = (16 + UpdateRefusal::DualPrimeFlags as u8) * 8;
 /// No row: refusal 12.
-const REFUSED_12: u8 = (16 + NONE_ROW_FLAGS) * 8;
+const REFUSED_12: u8 = (16 + UpdateRefusal::NoneRowFlags as u8) * 8;
 
 /// Tables 7-10 and 7-11: by picture (field, frame), then type (field-based, frame-based, 16 × 8, dual prime), then forward, backward and
 /// intra, which counts fastest: eight lines for each picture and type, the first of them without a flag. Concealment and an absent type are
@@ -182,21 +188,12 @@ const OUTCOMES: [u8; 64] = [
     REFUSED_7,
 ];
 
-impl PmvUpdateOutcome {
-    /// Its number, counted from 0 in the order above.
-    pub fn number(self) -> u8
-        ensures { result ≡ outcome_number self }
-    {
-        match self {
-            PmvUpdateOutcome::IntraConcealmentCopyForwardFirst => 0,
-            PmvUpdateOutcome::IntraResetAll => 1,
-            PmvUpdateOutcome::NonIntraCopyBoth => 2,
-            PmvUpdateOutcome::NonIntraCopyForward => 3,
-            PmvUpdateOutcome::NonIntraCopyBackward => 4,
-            PmvUpdateOutcome::NonIntraZeroMotionReset => 5,
-            PmvUpdateOutcome::NoUpdate => 6,
-            PmvUpdateOutcome::DualPrimeCopyForward => 7,
-        }
+impl From<PmvUpdateOutcome> for u8 {
+    ghost from_gives = { λ outcome number. number ≡ outcome_number outcome };
+
+    /// Counted from 0 in the order of the outcomes.
+    fn from(outcome: PmvUpdateOutcome) -> u8 {
+        outcome as u8
     }
 }
 
@@ -210,41 +207,12 @@ fn bit(x: bool) -> usize
     0
 }
 
-fn type_place(t: PredictionType) -> usize
-    ensures { (result ≡ type_number t) × (result ≤ 3) }
-{
-    match t {
-        PredictionType::FieldBased => 0,
-        PredictionType::FrameBased => 1,
-        PredictionType::SixteenByEight => 2,
-        PredictionType::DualPrime => 3,
-    }
-}
-
-/// The type, any where there is none: the rows of an intra macroblock are those of every type.
-fn type_or_any(prediction_type: MotionType) -> PredictionType
-    ensures { result ≡ type_or_any prediction_type }
-{
-    match prediction_type {
-        MotionType::Absent => PredictionType::FieldBased,
-        MotionType::Present(t) => t,
-    }
-}
-
-fn is_absent(prediction_type: MotionType) -> bool
-    ensures { result ≡ is_absent prediction_type }
-{
-    match prediction_type {
-        MotionType::Absent => true,
-        MotionType::Present(_) => false,
-    }
-}
-
 /// The place of the table for these keys.
+#[tactic(auto, unfolding(crate::specs::inner::Rows::outcomes))]
 fn row_at(frame: bool, t: PredictionType, forward: bool, backward: bool, intra: bool) -> u8
     ensures { result ≡ table_row frame t forward backward intra }
 {
-    let kind = bit(frame) * 32 + type_place(t) * 8;
+    let kind = bit(frame) * 32 + t as usize * 8;
     let flags = bit(forward) * 4 + bit(backward) * 2 + bit(intra);
     OUTCOMES[kind + flags]
 }
@@ -269,14 +237,15 @@ fn decide(ctx: PmvUpdateContext) -> u8
     let forward = ctx.macroblock_motion_forward;
     let backward = ctx.macroblock_motion_backward;
     let intra = ctx.macroblock_intra;
+    // The rows of an intra macroblock are those of every type.
     let row = row_at(
         picture.is_frame(),
-        type_or_any(prediction_type),
+        prediction_type.unwrap_or(PredictionType::FieldBased),
         forward,
         backward,
         intra,
     );
-    let typed = row_unless(is_absent(prediction_type) & !intra, REFUSED_8, row);
+    let typed = row_unless(prediction_type.is_none() & !intra, REFUSED_8, row);
     row_unless(
         (ctx.concealment_motion_vectors & intra) & !(forward | backward),
         INTRA_CONCEALMENT,
@@ -313,17 +282,40 @@ fn outcome_of(number: u8) -> PmvUpdateOutcome
     PmvUpdateOutcome::DualPrimeCopyForward
 }
 
+/// The refusal with this number, which is 7 to 12.
+#[tactic(auto, unfolding(crate::specs::inner::Rows::refusal_of))]
+fn refusal_of(number: u8) -> UpdateRefusal
+    ensures { result ≡ refusal_of number }
+{
+    if number == 7 {
+        return UpdateRefusal::IntraWithMotion;
+    }
+    if number == 8 {
+        return UpdateRefusal::TypeMissing;
+    }
+    if number == 9 {
+        return UpdateRefusal::FrameBasedInField;
+    }
+    if number == 10 {
+        return UpdateRefusal::SixteenByEightInFrame;
+    }
+    if number == 11 {
+        return UpdateRefusal::DualPrimeFlags;
+    }
+    UpdateRefusal::NoneRowFlags
+}
+
 /// The answer that a row stands for. Both parts are made before the test, so that it chooses and does not jump.
 #[tactic(auto, unfolding(crate::specs::inner::Rows::answer_of))]
-fn answer_of(row: u8) -> Updated
+fn answer_of(row: u8) -> Result<PmvUpdateOutcome, UpdateRefusal>
     ensures { result ≡ answer_of row }
 {
     let outcome = outcome_of(row / 8 % 8);
-    let refusal = row / 8 % 16;
+    let refusal = refusal_of(row / 8 % 16);
     if row < 128 {
-        return Updated::Outcome(outcome);
+        return Ok(outcome);
     }
-    Updated::Refused(refusal)
+    Err(refusal)
 }
 
 fn chosen(first: bool, a: i32, b: i32) -> i32
@@ -360,8 +352,8 @@ fn carried_out(pmv: Pmv, row: u8) -> Pmv
 /// The predictors after a macroblock, and which row of Tables 7-10 and 7-11 it was. A refusal changes no predictor.
 pub fn updated_predictors(pmv: Pmv, ctx: PmvUpdateContext) -> PredictorUpdate
     ensures update { result ≡ updated pmv ctx }
-    ensures number { update_number result.answer ≡ update_refusal ctx }
-    ensures value { update_value result.answer ≡ value_unless (update_number result.answer) (update_outcome ctx) }
+    ensures refusal { result_err result.answer ≡ update_refusal ctx }
+    ensures value { result_ok result.answer ≡ value_unless (result_err result.answer) (update_outcome ctx) }
 {
     let row = decide(ctx);
     PredictorUpdate {

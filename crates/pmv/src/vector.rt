@@ -1,70 +1,62 @@
 //! ISO/IEC 13818-2, 7.6.3.1: components and vectors are decoded against the predictors, which take the new values.
 ghost use Rattle.std.specs.Prelude.{◌≡◌, false};
-ghost use Rattle.forming_predictions.specs.SampleAnswers.{value_unless};
+ghost use Rattle.std.specs.Result.{result_ok, result_err};
+ghost use Rattle.combine_predictions.specs.Refusals.{value_unless};
 ghost use Rattle.pmv.specs.Component.{halves};
 ghost use Rattle.pmv.specs.Predictors.{pair_of};
 ghost use Rattle.pmv.specs.Vector.{ported, part_refusal, part, decoded, vector_refusal, components, reconstructed_pair, reconstructed};
 ghost use Rattle.pmv.specs.inner.Steps.{joined};
-ghost use Rattle.pmv.specs.Answers.{reconstructed_number, reconstructed_value, vector_number, vector_value};
 
-use crate::component::{
-    MotionResidual, Reconstructed, ReconstructedComponent, reconstruct_component,
-};
+use crate::component::{ReconstructedComponent, VectorRefusal, reconstruct_component};
 use crate::kinds::{Component, Direction, MvFormat, PictureStructure, VectorIndex};
 use crate::predictors::{Pmv, PredictorPair};
 
 /// What the stream has of a vector: a motion_code and a motion_residual for each component.
-#[derive(Clone, Copy)]
+#[derive(Clone, Copy, Debug, PartialEq, Eq)]
 pub struct MotionVector {
     pub motion_code_horiz: i32,
-    pub motion_residual_horiz: MotionResidual,
+    pub motion_residual_horiz: Option<u8>,
     pub motion_code_vert: i32,
-    pub motion_residual_vert: MotionResidual,
+    pub motion_residual_vert: Option<u8>,
 }
 
 /// The answer for a component, and the predictors after it.
-#[derive(Clone, Copy)]
+#[derive(Clone, Copy, Debug, PartialEq, Eq)]
 pub struct DecodedComponent {
-    pub answer: Reconstructed,
+    pub answer: Result<ReconstructedComponent, VectorRefusal>,
     pub pmv: Pmv,
 }
 
 /// Both components of a vector.
-#[derive(Clone, Copy)]
+#[derive(Clone, Copy, Debug, PartialEq, Eq)]
 pub struct VectorComponents {
     pub horizontal: ReconstructedComponent,
     pub vertical: ReconstructedComponent,
 }
 
-/// A vector, or the number of the refusal.
-#[derive(Clone, Copy)]
-pub enum ReconstructedVector {
-    Components(VectorComponents),
-    Refused(u8),
-}
-
 /// The answer for a vector, and its two predictors after it.
-#[derive(Clone, Copy)]
+#[derive(Clone, Copy, Debug, PartialEq, Eq)]
 pub struct DecodedPair {
-    pub answer: ReconstructedVector,
+    pub answer: Result<VectorComponents, VectorRefusal>,
     pub predictors: PredictorPair,
 }
 
 /// The answer for a vector, and all predictors after it.
-#[derive(Clone, Copy)]
+#[derive(Clone, Copy, Debug, PartialEq, Eq)]
 pub struct DecodedVector {
-    pub answer: ReconstructedVector,
+    pub answer: Result<VectorComponents, VectorRefusal>,
     pub pmv: Pmv,
 }
 
 /// A component against its predictor, which takes the new value unless the component is refused.
+#[tactic(auto, unfolding(crate::specs::Vector::decoded))]
 fn decode(
     pmv: Pmv,
     r: VectorIndex,
     s: Direction,
     t: Component,
     motion_code: i32,
-    motion_residual: MotionResidual,
+    motion_residual: Option<u8>,
     f_code: u8,
     mv_format: MvFormat,
     picture: PictureStructure,
@@ -81,14 +73,14 @@ fn decode(
         picture,
         t,
     ) {
-        Reconstructed::Refused(number) => DecodedComponent {
-            answer: Reconstructed::Refused(number),
+        Err(refusal) => DecodedComponent {
+            answer: Err(refusal),
             pmv: pmv,
         },
-        Reconstructed::Component(c) => {
+        Ok(c) => {
             let kept = pmv.with(r, s, t, c.new_pmv);
             DecodedComponent {
-                answer: Reconstructed::Component(c),
+                answer: Ok(c),
                 pmv: kept,
             }
         }
@@ -96,18 +88,19 @@ fn decode(
 }
 
 /// One component, never halved: as for a frame vector.
+#[tactic(auto, using(crate::proofs::Answers::refusal_of, crate::proofs::Answers::value_of), unfolding(crate::specs::Component::halves, crate::specs::Vector::decoded))]
 pub fn decoded_motion_vector(
     pmv: Pmv,
     r: VectorIndex,
     s: Direction,
     t: Component,
     motion_code: i32,
-    motion_residual: MotionResidual,
+    motion_residual: Option<u8>,
     f_code: u8,
 ) -> DecodedComponent
     ensures decoding { result ≡ decoded pmv r s t f_code motion_code motion_residual false ported }
-    ensures number { reconstructed_number result.answer ≡ part_refusal pmv r s t f_code motion_code motion_residual false ported }
-    ensures value { reconstructed_value result.answer ≡ value_unless (reconstructed_number result.answer) (part pmv r s t f_code motion_code motion_residual false) }
+    ensures refusal { result_err result.answer ≡ part_refusal pmv r s t f_code motion_code motion_residual false ported }
+    ensures value { result_ok result.answer ≡ value_unless (result_err result.answer) (part pmv r s t f_code motion_code motion_residual false) }
 {
     decode(
         pmv,
@@ -126,17 +119,17 @@ pub fn decoded_motion_vector(
 fn with_vertical(
     kept: PredictorPair,
     horizontal: ReconstructedComponent,
-    vertical: Reconstructed,
+    vertical: Result<ReconstructedComponent, VectorRefusal>,
 ) -> DecodedPair
     ensures { result ≡ joined kept horizontal vertical }
 {
     match vertical {
-        Reconstructed::Refused(number) => DecodedPair {
-            answer: ReconstructedVector::Refused(number),
+        Err(refusal) => DecodedPair {
+            answer: Err(refusal),
             predictors: kept,
         },
-        Reconstructed::Component(c) => DecodedPair {
-            answer: ReconstructedVector::Components(VectorComponents {
+        Ok(c) => DecodedPair {
+            answer: Ok(VectorComponents {
                 horizontal: horizontal,
                 vertical: c,
             }),
@@ -150,6 +143,7 @@ fn with_vertical(
 
 /// A vector against its two predictors: the horizontal component, then the vertical one. Where the vertical one is refused, the new
 /// horizontal predictor remains. A caller that holds the record elsewhere need copy no more of it than these two.
+#[tactic(auto, using(crate::proofs::Answers::refusal_of, crate::proofs::Answers::value_of), unfolding(crate::specs::Vector::reconstructed_pair))]
 pub fn reconstructed_pair(
     prior: PredictorPair,
     mv: MotionVector,
@@ -159,8 +153,8 @@ pub fn reconstructed_pair(
     picture: PictureStructure,
 ) -> DecodedPair
     ensures reconstruction { result ≡ reconstructed_pair prior mv f_code_horiz f_code_vert mv_format picture ported }
-    ensures number { vector_number result.answer ≡ vector_refusal prior mv f_code_horiz f_code_vert mv_format picture ported }
-    ensures value { vector_value result.answer ≡ value_unless (vector_number result.answer) (components prior mv f_code_horiz f_code_vert mv_format picture) }
+    ensures refusal { result_err result.answer ≡ vector_refusal prior mv f_code_horiz f_code_vert mv_format picture ported }
+    ensures value { result_ok result.answer ≡ value_unless (result_err result.answer) (components prior mv f_code_horiz f_code_vert mv_format picture) }
 {
     let residual_horiz = mv.motion_residual_horiz;
     let residual_vert = mv.motion_residual_vert;
@@ -173,11 +167,11 @@ pub fn reconstructed_pair(
         picture,
         Component::Horizontal,
     ) {
-        Reconstructed::Refused(number) => DecodedPair {
-            answer: ReconstructedVector::Refused(number),
+        Err(refusal) => DecodedPair {
+            answer: Err(refusal),
             predictors: prior,
         },
-        Reconstructed::Component(c) => {
+        Ok(c) => {
             let kept = PredictorPair {
                 horizontal: c.new_pmv,
                 vertical: prior.vertical,
@@ -197,6 +191,7 @@ pub fn reconstructed_pair(
 }
 
 /// A vector against the record.
+#[tactic(auto, unfolding(crate::specs::Vector::reconstructed))]
 pub fn reconstructed_motion_vector(
     pmv: Pmv,
     mv: MotionVector,
@@ -208,8 +203,8 @@ pub fn reconstructed_motion_vector(
     picture: PictureStructure,
 ) -> DecodedVector
     ensures reconstruction { result ≡ reconstructed pmv mv r s f_code_horiz f_code_vert mv_format picture ported }
-    ensures number { vector_number result.answer ≡ vector_refusal (pair_of pmv r s) mv f_code_horiz f_code_vert mv_format picture ported }
-    ensures value { vector_value result.answer ≡ value_unless (vector_number result.answer) (components (pair_of pmv r s) mv f_code_horiz f_code_vert mv_format picture) }
+    ensures refusal { result_err result.answer ≡ vector_refusal (pair_of pmv r s) mv f_code_horiz f_code_vert mv_format picture ported }
+    ensures value { result_ok result.answer ≡ value_unless (result_err result.answer) (components (pair_of pmv r s) mv f_code_horiz f_code_vert mv_format picture) }
 {
     let prior = pmv.pair(r, s);
     let decoded = reconstructed_pair(prior, mv, f_code_horiz, f_code_vert, mv_format, picture);

@@ -2,19 +2,17 @@
 -- proofs/Rows.antt has that all this agrees with the rule. For private contracts alone.
 -- The scope (docs/SCOPE.md): one constant table of 64 outcomes, here by picture, type, forward, backward and intra; concealment and an
 -- absent type beside it.
-use Rattle.std.specs.Prelude.{Bool, true, false, not, ◌&&◌, ◌||◌, cond, List, [], ◌∷◌, ℕ, ◌+◌, ◌*◌, ◌/◌, ◌%◌, eqb, ltb, ℤ, pos, get_or}
+use Rattle.std.specs.Prelude.{Bool, true, false, not, ◌&&◌, ◌||◌, cond, List, [], ◌∷◌, ℕ, ◌+◌, ◌*◌, ◌/◌, ◌%◌, eqb, ltb, ℤ, pos, get_or, Option, is_none, unwrap_or, Result, Ok, Err}
 use Rattle.std.specs.Int.Bits.{bit_and}
 use Rattle.pmv.specs.Kinds.{type_number, is_frame_picture}
 use Rattle.pmv.specs.declared.kinds.PredictionType.{PredictionType}
 use Rattle.pmv.specs.declared.kinds.PredictionType.TheVariants.{FieldBased}
-use Rattle.pmv.specs.declared.kinds.MotionType.{MotionType}
-use Rattle.pmv.specs.declared.kinds.MotionType.TheVariants.{Absent, Present}
 use Rattle.pmv.specs.declared.predictors.Pmv.{Pmv}
 use Rattle.pmv.specs.declared.update.PmvUpdateContext.{PmvUpdateContext}
 use Rattle.pmv.specs.declared.update.PmvUpdateOutcome.{PmvUpdateOutcome}
 use Rattle.pmv.specs.declared.update.PmvUpdateOutcome.TheVariants as O
-use Rattle.pmv.specs.declared.update.Updated.{Updated}
-use Rattle.pmv.specs.declared.update.Updated.TheVariants.{Outcome, Refused}
+use Rattle.pmv.specs.declared.update.UpdateRefusal.{UpdateRefusal}
+use Rattle.pmv.specs.declared.update.UpdateRefusal.TheVariants as R
 
 -- ---- the table: a line for each picture and type
 unfoldable pub outcomes : List ℕ
@@ -38,18 +36,10 @@ abbrev pub table_row : Bool → PredictionType → Bool → Bool → Bool → �
 table_row p t f b i = get_or outcomes ((flag_number p * 32 + type_number t * 8) + (flag_number f * 4 + flag_number b * 2 + flag_number i)) 0
 
 -- ---- beside it
-abbrev pub type_or_any : MotionType → PredictionType
-type_or_any Absent = FieldBased
-type_or_any (Present t) = t
-
-abbrev pub is_absent : MotionType → Bool
-is_absent Absent = true
-is_absent (Present t) = false
-
 -- frame picture, type, forward, backward, intra, concealment
-unfoldable pub row_for : Bool → MotionType → Bool → Bool → Bool → Bool → ℕ
+unfoldable pub row_for : Bool → Option PredictionType → Bool → Bool → Bool → Bool → ℕ
 row_for frame type f b i c =
-    cond ((c && i) && not (f || b)) 1 (cond (is_absent type && not i) 192 (table_row frame (type_or_any type) f b i))
+    cond ((c && i) && not (f || b)) 1 (cond (is_none type && not i) 192 (table_row frame (unwrap_or type FieldBased) f b i))
 
 abbrev pub decided_row : PmvUpdateContext → ℕ
 decided_row x =
@@ -66,8 +56,15 @@ outcome_of k =
     (cond (eqb k 4) O.NonIntraCopyBackward
     (cond (eqb k 5) O.NonIntraZeroMotionReset (cond (eqb k 6) O.NoUpdate O.DualPrimeCopyForward))))))
 
-unfoldable pub answer_of : ℕ → Updated
-answer_of row = cond (ltb row 128) (Outcome (outcome_of (row / 8 % 8))) (Refused (row / 8 % 16))
+unfoldable pub refusal_of : ℕ → UpdateRefusal
+refusal_of k =
+    cond (eqb k 7) R.IntraWithMotion
+    (cond (eqb k 8) R.TypeMissing
+    (cond (eqb k 9) R.FrameBasedInField
+    (cond (eqb k 10) R.SixteenByEightInFrame (cond (eqb k 11) R.DualPrimeFlags R.NoneRowFlags))))
+
+unfoldable pub answer_of : ℕ → Result PmvUpdateOutcome UpdateRefusal
+answer_of row = cond (ltb row 128) (Ok (outcome_of (row / 8 % 8))) (Err (refusal_of (row / 8 % 16)))
 
 -- and does: whether it has a bit
 abbrev pub has : ℕ → ℕ → Bool

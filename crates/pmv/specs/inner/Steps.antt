@@ -1,15 +1,14 @@
 -- A vector as the code makes it: the vertical component's answer, after the horizontal component was stored. For private contracts alone.
+use Rattle.std.specs.Prelude.{Result, Ok, Err}
 use Rattle.pmv.specs.declared.component.ReconstructedComponent.{ReconstructedComponent}
-use Rattle.pmv.specs.declared.component.Reconstructed.{Reconstructed}
-use Rattle.pmv.specs.declared.component.Reconstructed.TheVariants as C
+use Rattle.pmv.specs.declared.component.VectorRefusal.{VectorRefusal}
 use Rattle.pmv.specs.declared.predictors.PredictorPair.{PredictorPair}
-use Rattle.pmv.specs.declared.vector.ReconstructedVector.TheVariants as Vec
 use Rattle.pmv.specs.declared.vector.DecodedPair.{DecodedPair}
 
-abbrev pub joined : PredictorPair → ReconstructedComponent → Reconstructed → DecodedPair
-joined kept h (C.Component v) =
+abbrev pub joined : PredictorPair → ReconstructedComponent → Result ReconstructedComponent VectorRefusal → DecodedPair
+joined kept h (Ok v) =
     record {
-      answer = Vec.Components (record { horizontal = h; vertical = v });
+      answer = Ok (record { horizontal = h; vertical = v });
       predictors = record { horizontal = kept.horizontal; vertical = v.new_pmv };
     }
-joined kept h (C.Refused n) = record { answer = Vec.Refused n; predictors = kept }
+joined kept h (Err r) = record { answer = Err r; predictors = kept }

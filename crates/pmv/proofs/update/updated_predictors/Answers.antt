@@ -5,7 +5,7 @@ use Rattle.pmv.specs.Kinds.{is_frame_picture}
 use Rattle.pmv.specs.Update.{updated}
 use Rattle.pmv.specs.inner.Rows.{answer_of, carried_out}
 use Rattle.pmv.proofs.Rows.{answers, does}
-use Rattle.pmv.proofs.Answers.{updated_all}
+use Rattle.pmv.proofs.Answers.{refusal_promised, value_promised}
 use Rattle.pmv.proofs.update.updated_predictors.Goals as goal
 
 pub returns : goal.returns
@@ -23,5 +23,8 @@ returns c =
     let d = c.decide-row.ensures in
     let ea = c.answer_of.ensures ∙ ap answer_of d ∙ answers frame m f b t h in
     let ep = c.carried_out.ensures ∙ ap (λ (k : ℕ). carried_out k p) d ∙ does frame m f b t h p eight in
-    let (a, (n, v)) = updated_all _ p x (λ i. record { answer = ea i; pmv = ep i }) in
-    record { update = a; number = n; value = v }
+    record {
+      update = λ i. record { answer = ea i; pmv = ep i };
+      refusal = refusal_promised _ _ _ ea;
+      value = value_promised _ _ _ ea;
+    }
