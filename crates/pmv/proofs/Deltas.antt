@@ -1,4 +1,4 @@
--- f_code, motion_code and delta: how large they are, and when each of 1 to 4 is given.
+-- f_code, motion_code and delta: how large they are.
 -- Assumes nothing.
 use mathlib.Core.Path.{◌≡◌, refl, sym, ◌∙◌}
 use mathlib.Core.Bool.{Bool, true, false, ◌&&◌, ◌||◌}
@@ -58,5 +58,3 @@ or_none false b e = e
 pub not_plain : (f : ℕ) (z : ℤ) → is_plain f z ≡ false → 1 ≤ nat_abs z
 unfolding is_plain
 not_plain f z e = let h = eqb-false (nat_abs z) 0 (or_none (eqb f 1) (eqb (nat_abs z) 0) e) in omega arith
-
--- ---- when each number is given

@@ -88,7 +88,7 @@ fn decode(
 }
 
 /// One component, never halved: as for a frame vector.
-#[tactic(auto, using(crate::proofs::Answers::refusal_of, crate::proofs::Answers::value_of), unfolding(crate::specs::Component::halves, crate::specs::Vector::decoded))]
+#[tactic(auto, unfolding(crate::specs::Component::halves, crate::specs::Vector::decoded))]
 pub fn decoded_motion_vector(
     pmv: Pmv,
     r: VectorIndex,
@@ -143,7 +143,7 @@ fn with_vertical(
 
 /// A vector against its two predictors: the horizontal component, then the vertical one. Where the vertical one is refused, the new
 /// horizontal predictor remains. A caller that holds the record elsewhere need copy no more of it than these two.
-#[tactic(auto, using(crate::proofs::Answers::refusal_of, crate::proofs::Answers::value_of), unfolding(crate::specs::Vector::reconstructed_pair))]
+#[tactic(auto, unfolding(crate::specs::Vector::reconstructed_pair))]
 pub fn reconstructed_pair(
     prior: PredictorPair,
     mv: MotionVector,

@@ -5,7 +5,7 @@ use Rattle.pmv.specs.Kinds.{is_frame_picture}
 use Rattle.pmv.specs.Update.{updated}
 use Rattle.pmv.specs.inner.Rows.{answer_of, carried_out}
 use Rattle.pmv.proofs.Rows.{answers, does}
-use Rattle.pmv.proofs.Answers.{refusal_promised, value_promised}
+use Rattle.combine_predictions.proofs.Answers.{refusal_of, value_of}
 use Rattle.pmv.proofs.update.updated_predictors.Goals as goal
 
 pub returns : goal.returns
@@ -25,6 +25,6 @@ returns c =
     let ep = c.carried_out.ensures ∙ ap (λ (k : ℕ). carried_out k p) d ∙ does frame m f b t h p eight in
     record {
       update = λ i. record { answer = ea i; pmv = ep i };
-      refusal = refusal_promised _ _ _ ea;
-      value = value_promised _ _ _ ea;
+      refusal = refusal_of _ _ ea;
+      value = value_of _ _ ea;
     }
