@@ -1,27 +1,21 @@
 -- What the tests of the calls say.
 -- Assumes nothing.
-use mathlib.Core.Path.{◌≡◌, refl, ap, ◌∙◌}
-use mathlib.Core.List.{List}
+use mathlib.Core.Path.{◌≡◌, refl}
 use mathlib.Core.Bool.{Bool, true, false, ◌&&◌, ◌||◌}
-use Prim.Native.Nat.{ℕ, zero, suc, ◌+◌, ◌*◌}
+use Prim.Native.Nat.{ℕ, ◌+◌, ◌*◌}
 use native.Mathlib.Omega.{arith}
 use lib.ListN.{length}
 use Rattle.laws.proofs.Tests.{both}
-use Rattle.combine_predictions.specs.Refusals.{unless_refused}
 use Rattle.forming_predictions.specs.Means.{rounded}
 use Rattle.forming_predictions.specs.Refusals.{plane_fits}
 use Rattle.pmv.specs.declared.kinds.ChromaFormat.{ChromaFormat}
 use Rattle.inter_reconstruction.specs.declared.frames.FrameBuffer.{FrameBuffer}
 use Rattle.inter_reconstruction.specs.declared.motion.DirectionMotion.{DirectionMotion}
-use Rattle.inter_reconstruction.specs.declared.motion.Uses.{Uses}
 use Rattle.inter_reconstruction.specs.declared.motion.Uses.TheVariants.{Forward, Backward}
-use Rattle.inter_reconstruction.specs.declared.macroblock.Accepted.{Accepted}
-use Rattle.inter_reconstruction.specs.declared.macroblock.MacroblockPrediction.{MacroblockPrediction}
 use Rattle.inter_reconstruction.specs.Components.{ColourComponent, luma, cb, cr, block_width, block_height, macroblock_bytes}
 use Rattle.inter_reconstruction.specs.Frames.{Samples, lengths_of, plane_of, PlaneReading}
 use Rattle.inter_reconstruction.specs.Macroblock.{used_sample, rectangle, macroblock, predicted}
 use Rattle.inter_reconstruction.specs.Refusals.{planes_fit}
-use Rattle.inter_reconstruction.specs.Answers.{prediction_number, prediction_answer}
 use Rattle.inter_reconstruction.specs.inner.Planes.{FrameFits, directed}
 
 neither : (x y : Bool) → (x || y) ≡ false → (x ≡ false) × (y ≡ false)
@@ -50,47 +44,13 @@ frame_fits b s e c = go c
 pub bytes_are : (f : ChromaFormat) (w h : ℕ) → w ≡ block_width f cb → h ≡ block_height f cb → 256 + (w * h + w * h) ≡ macroblock_bytes f
 bytes_are f w h ew eh = rw (ew, eh)
 
--- ---- answers
-pub answer_number : (n : ℕ) (a : Accepted) → prediction_number (prediction_answer n a) ≡ n
-answer_number zero a = refl
-answer_number (suc n) a = refl
-
--- a buffer that was written by the number is written by the answer
-pub by_answer : {A : Type 0} (r : MacroblockPrediction) (n : ℕ) (t : Accepted) (o new old : A)
-    → r ≡ prediction_answer n t → o ≡ unless_refused n new old → o ≡ unless_refused (prediction_number r) new old
-by_answer r n t o new old e w = w ∙ rw (e, answer_number n t)
-
 -- ---- what is written
 
-module _ (f : ChromaFormat) (forward backward : ColourComponent → PlaneReading) (col row : ℕ) where
-  -- a buffer that was written by the number, from the directions v, is written by the answer, from the directions u, which are these
-  pub written : (u v : Uses) (r : MacroblockPrediction) (n : ℕ) (t : Accepted) (o old : List ℕ)
-      → v ≡ u
-      → r ≡ prediction_answer n t
-      → o ≡ unless_refused n (predicted rounded f forward backward v col row) old
-      → o ≡ unless_refused (prediction_number r) (predicted rounded f forward backward u col row) old
-  written u v r n t o old e a w = rw (← e) (by_answer r n t o _ old a w)
+module _ (f : ChromaFormat) (forward backward : ColourComponent → PlaneReading) (col row : ℕ) (d : DirectionMotion) where
+  pub forward_alone : directed f forward d col row ≡ predicted rounded f forward backward (Forward d) col row
+  unfolding macroblock rectangle used_sample
+  forward_alone = refl
 
-  module _ (d : DirectionMotion) where
-    pub forward_alone : directed f forward d col row ≡ predicted rounded f forward backward (Forward d) col row
-    unfolding macroblock rectangle used_sample
-    forward_alone = refl
-
-    pub backward_alone : directed f backward d col row ≡ predicted rounded f forward backward (Backward d) col row
-    unfolding macroblock rectangle used_sample
-    backward_alone = refl
-
-    -- so it is where it was written from one direction
-    pub forward_written : (u : Uses) (r : MacroblockPrediction) (n : ℕ) (t : Accepted) (o old : List ℕ)
-        → Forward d ≡ u
-        → r ≡ prediction_answer n t
-        → o ≡ unless_refused n (directed f forward d col row) old
-        → o ≡ unless_refused (prediction_number r) (predicted rounded f forward backward u col row) old
-    forward_written u r n t o old e a w = written u (Forward d) r n t o old e a (w ∙ ap (λ (z : List ℕ). unless_refused n z old) forward_alone)
-
-    pub backward_written : (u : Uses) (r : MacroblockPrediction) (n : ℕ) (t : Accepted) (o old : List ℕ)
-        → Backward d ≡ u
-        → r ≡ prediction_answer n t
-        → o ≡ unless_refused n (directed f backward d col row) old
-        → o ≡ unless_refused (prediction_number r) (predicted rounded f forward backward u col row) old
-    backward_written u r n t o old e a w = written u (Backward d) r n t o old e a (w ∙ ap (λ (z : List ℕ). unless_refused n z old) backward_alone)
+  pub backward_alone : directed f backward d col row ≡ predicted rounded f forward backward (Backward d) col row
+  unfolding macroblock rectangle used_sample
+  backward_alone = refl

@@ -26,11 +26,6 @@ use Rattle.inter_reconstruction.proofs.Checks.{bytes_are}
 
 -- ---- answers
 
--- what a refusal leaves
-pub kept : {A : Type 0} (n : ℕ) (new old : A) → (n ≡ 0 → ⊥) → old ≡ unless_refused n new old
-kept zero new old h = absurd (h refl)
-kept (suc n) new old h = refl
-
 -- ---- tests
 
 every_one : (t : ColourComponent → Bool) → every_component t ≡ true → (c : ColourComponent) → t c ≡ true

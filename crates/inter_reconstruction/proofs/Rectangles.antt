@@ -14,9 +14,11 @@ use borrow.Author.Tests.{le-leb, eq-eqb}
 use Rattle.laws.specs.Tabulate.{tabulate}
 use Rattle.laws.proofs.Signed.{yes_le}
 use Rattle.laws.proofs.Tabulated.{length_tab, get_or_tab, tab_ext}
-use Rattle.combine_predictions.specs.Refusals.{unless_refused}
-use Rattle.combine_predictions.specs.Averaging.{mean2, averaged, average_answer, number_of}
-use Rattle.combine_predictions.specs.declared.Averaged.{Averaged}
+use Rattle.std.specs.Prelude.{Option, None, Result}
+use Rattle.std.specs.Result.{result_err, IsOk}
+use Rattle.combine_predictions.specs.Refusals.{answered, unless_refused}
+use Rattle.combine_predictions.specs.Averaging.{mean2, averaged, average_answer}
+use Rattle.combine_predictions.specs.declared.AveragingRefusal.{AveragingRefusal}
 use Rattle.combine_predictions.specs.declared.PredictionDirection.{PredictionDirection}
 use Rattle.combine_predictions.specs.declared.PredictionDirection.TheVariants.{Forward, Backward, Skipped}
 use Rattle.forming_predictions.specs.Lines.{frame, field, sample_at}
@@ -24,8 +26,7 @@ use Rattle.forming_predictions.specs.Means.{rounded}
 use Rattle.forming_predictions.specs.Forming.{block_of, predicted_block}
 use Rattle.forming_predictions.specs.Refusals.{position_fits, block_side_fits, block_refusal, last_block}
 use Rattle.forming_predictions.proofs.Blocks.{block_row}
-use Rattle.forming_predictions.specs.BlockAnswers.{block_number, block_answer}
-use Rattle.forming_predictions.specs.declared.Predicted.{Predicted}
+use Rattle.forming_predictions.specs.declared.FormingRefusal.{FormingRefusal}
 use Rattle.forming_predictions.specs.declared.ReferencePlane.{ReferencePlane}
 use Rattle.inter_reconstruction.specs.declared.motion.MotionVectorPel.{MotionVectorPel}
 use Rattle.inter_reconstruction.specs.declared.motion.FieldVector.{FieldVector}
@@ -59,7 +60,7 @@ position_yes n p = rw (yes_le (negsuc 32767) (pos n) (omega arith), yes_le (pos 
 pub block_accepted : (p : ReferencePlane) (d : List ℕ) (x y w h n : ℕ)
     → PlaneFits p d
     → BlockAt x y w h n
-    → block_refusal p.width p.height (length d) (pos x) (pos y) w h n ≡ 0
+    → block_refusal p.width p.height (length d) (pos x) (pos y) w h n ≡ None
 unfolding block_refusal
 block_accepted p d x y w h n f b =
     rw (
@@ -71,9 +72,12 @@ block_accepted p d x y w h n f b =
       eq-eqb n (w * h) b.count,
     )
 
--- and so the block is written
-pub block_written : {A : Type 0} (r : Predicted) (n : ℕ) (o new old : A)
-    → r ≡ block_answer n → n ≡ 0 → o ≡ unless_refused (block_number r) new old → o ≡ new
+-- and so the answer is no refusal, and the block is written
+pub block_is_ok : (r : Result Unit FormingRefusal) (n : Option FormingRefusal) → r ≡ answered n tt → n ≡ None → IsOk r
+block_is_ok r n e z = rw (e, z) refl
+
+pub block_written : {A : Type 0} (r : Result Unit FormingRefusal) (n : Option FormingRefusal) (o new old : A)
+    → r ≡ answered n tt → n ≡ None → o ≡ unless_refused (result_err r) new old → o ≡ new
 block_written r n o new old e z w = w ∙ rw (e, z)
 
 -- ---- which are the rows of the frame, or the lines of a field
@@ -162,12 +166,12 @@ module _ (read : PlaneReading) (pair : FieldVectorPair) (w h x y : ℕ) (f : Fie
   interleaved_is p = rw (← twice_half w h f.even) (tab_ext (w * h) _ _ (λ k q. cell_is k p q))
 
 -- ---- two blocks, averaged
-pub averaged_is : (w h : ℕ) (f g : ℕ → ℕ → ℕ) (x y : ℕ) (a b o old : List ℕ) (r : Averaged)
+pub averaged_is : (w h : ℕ) (f g : ℕ → ℕ → ℕ) (x y : ℕ) (a b o old : List ℕ) (r : Result Unit AveragingRefusal)
     → a ≡ rectangle w h f x y
     → b ≡ rectangle w h g x y
     → length old ≡ w * h
     → r ≡ average_answer (length a) (length b) (length old)
-    → o ≡ unless_refused (number_of r) (averaged a b) old
+    → o ≡ unless_refused (result_err r) (averaged a b) old
     → o ≡ rectangle w h (λ (i j : ℕ). mean2 (f i j) (g i j)) x y
 unfolding rectangle
 averaged_is w h f g x y a b o old r ea eb eo er e =

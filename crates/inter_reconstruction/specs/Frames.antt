@@ -1,12 +1,10 @@
 -- A frame, by component: the sides of its planes, and what is read of them.
 -- The scope (docs/SCOPE.md): planes carry their own sides, and these say what is read. Nothing here is the standard's.
-use Rattle.std.specs.Prelude.{Bool, true, false, List, ℕ, ℤ, length}
+use Rattle.std.specs.Prelude.{List, ℕ, ℤ, length, Option, Some, None}
 use Rattle.forming_predictions.specs.Lines.{Lines, sample_at}
 use Rattle.forming_predictions.specs.declared.ReferencePlane.{ReferencePlane}
 use Rattle.inter_reconstruction.specs.Components.{ColourComponent, luma, cb, cr}
 use Rattle.inter_reconstruction.specs.declared.frames.FrameBuffer.{FrameBuffer}
-use Rattle.inter_reconstruction.specs.declared.frames.ReferenceFrame.{ReferenceFrame}
-use Rattle.inter_reconstruction.specs.declared.frames.ReferenceFrame.TheVariants.{Absent, Present}
 
 -- the samples of each component's plane, row after row
 abbrev pub Samples : Type 0
@@ -26,10 +24,6 @@ plane_of b luma = b.y
 plane_of b cb = b.cb
 plane_of b cr = b.cr
 
-abbrev pub is_present : ReferenceFrame → Bool
-is_present Absent = false
-is_present (Present b) = true
-
 -- a plane as it is read: the sample at (x, y) of the frame's lines or of a field's
 abbrev pub PlaneReading : Type 0
 PlaneReading = Lines → ℤ → ℤ → ℕ
@@ -42,6 +36,6 @@ abbrev pub read_frame : FrameBuffer → Samples → ColourComponent → PlaneRea
 read_frame b s c = read_plane (plane_of b c) (s c)
 
 -- a reference's; of one that is absent nothing is ever read
-abbrev pub read_reference : ReferenceFrame → Samples → ColourComponent → PlaneReading
-read_reference Absent s c = λ (l : Lines) (x y : ℤ). 0
-read_reference (Present b) s c = read_frame b s c
+abbrev pub read_reference : Option FrameBuffer → Samples → ColourComponent → PlaneReading
+read_reference None s c = λ (l : Lines) (x y : ℤ). 0
+read_reference (Some b) s c = read_frame b s c

@@ -1,7 +1,8 @@
 -- ISO/IEC 13818-2, 7.6.3.5, 7.6.3.7 and 7.6.5: which directions a macroblock is predicted from, and by which vectors.
 -- The scope (docs/SCOPE.md): without motion in either direction, zero vectors from the forward reference, each field from its own parity,
 -- in every picture; with motion in both directions and one reference, that one alone, by its own vectors.
-use Rattle.std.specs.Prelude.{Bool, ℕ, zero, suc, pos, true, false}
+use Rattle.std.specs.Prelude.{Bool, ℕ, zero, suc, pos, true, false, Option, Some, None}
+use Rattle.std.specs.Option.{option_map}
 use Rattle.forming_predictions.specs.declared.FieldParity.TheVariants.{Top, Bottom}
 use Rattle.pmv.specs.Chroma.{chroma_horizontal, chroma_vertical}
 use Rattle.pmv.specs.declared.kinds.ChromaFormat.{ChromaFormat}
@@ -9,14 +10,9 @@ use Rattle.inter_reconstruction.specs.Components.{ColourComponent, luma, cb, cr}
 use Rattle.inter_reconstruction.specs.declared.motion.MotionVectorPel.{MotionVectorPel}
 use Rattle.inter_reconstruction.specs.declared.motion.FieldVector.{FieldVector}
 use Rattle.inter_reconstruction.specs.declared.motion.FieldVectorPair.{FieldVectorPair}
-use Rattle.inter_reconstruction.specs.declared.motion.FrameDirection.{FrameDirection}
-use Rattle.inter_reconstruction.specs.declared.motion.FieldDirection.{FieldDirection}
-use Rattle.inter_reconstruction.specs.declared.motion.FrameMotion.{FrameMotion}
-use Rattle.inter_reconstruction.specs.declared.motion.FieldBasedMotion.{FieldBasedMotion}
+use Rattle.inter_reconstruction.specs.declared.motion.Motion.{Motion}
 use Rattle.inter_reconstruction.specs.declared.motion.DirectionMotion.{DirectionMotion}
 use Rattle.inter_reconstruction.specs.declared.motion.DirectionMotion.TheVariants.{Frame, Field}
-use Rattle.inter_reconstruction.specs.declared.motion.OptionDirectionMotion.{OptionDirectionMotion}
-use Rattle.inter_reconstruction.specs.declared.motion.OptionDirectionMotion.TheVariants.{None, Some}
 use Rattle.inter_reconstruction.specs.declared.motion.Uses.{Uses}
 use Rattle.inter_reconstruction.specs.declared.motion.Uses.TheVariants.{Forward, Backward, Both}
 
@@ -33,16 +29,8 @@ zero_pair =
       bottom = record { vector = zero_vector; reference_field = Bottom };
     }
 
-abbrev pub frame_direction : FrameDirection → OptionDirectionMotion
-frame_direction FrameDirection.Absent = None
-frame_direction (FrameDirection.Present v) = Some (Frame v)
-
-abbrev pub field_direction : FieldDirection → OptionDirectionMotion
-field_direction FieldDirection.Absent = None
-field_direction (FieldDirection.Present p) = Some (Field p)
-
 -- the directions that have motion. Without motion in either (7.6.3.5) it is the forward one, by zero vectors, `still`.
-abbrev pub wanted : DirectionMotion → OptionDirectionMotion → OptionDirectionMotion → Uses
+abbrev pub wanted : DirectionMotion → Option DirectionMotion → Option DirectionMotion → Uses
 wanted still None None = Forward still
 wanted still (Some d) None = Forward d
 wanted still None (Some e) = Backward e
@@ -65,20 +53,28 @@ BackwardAlone (Backward e) = Unit {0}
 BackwardAlone (Both d e) = ⊥
 
 -- the directions that are used, by the motion of each and the presence of the references
-abbrev pub uses : DirectionMotion → OptionDirectionMotion → OptionDirectionMotion → Bool → Bool → Uses
+abbrev pub uses : DirectionMotion → Option DirectionMotion → Option DirectionMotion → Bool → Bool → Uses
 uses still d e = remaining (wanted still d e)
 
-abbrev pub frame_wanted : FrameMotion → Uses
-frame_wanted m = wanted (Frame zero_vector) (frame_direction m.forward) (frame_direction m.backward)
+-- the same of a macroblock's vectors, whatever they are: `of` is the motion that they stand for, and `still` are those of no motion
+abbrev pub wanted_by : {V : Type 0} → (V → DirectionMotion) → V → Motion V → Uses
+wanted_by of still m = wanted (of still) (option_map of m.forward) (option_map of m.backward)
 
-abbrev pub field_wanted : FieldBasedMotion → Uses
-field_wanted m = wanted (Field zero_pair) (field_direction m.forward) (field_direction m.backward)
+abbrev pub uses_by : {V : Type 0} → (V → DirectionMotion) → V → Motion V → Bool → Bool → Uses
+uses_by of still m = uses (of still) (option_map of m.forward) (option_map of m.backward)
 
-abbrev pub frame_uses : FrameMotion → Bool → Bool → Uses
-frame_uses m = uses (Frame zero_vector) (frame_direction m.forward) (frame_direction m.backward)
+-- of a frame-based macroblock, and of a field-based one
+abbrev pub frame_wanted : Motion MotionVectorPel → Uses
+frame_wanted = wanted_by Frame zero_vector
 
-abbrev pub field_uses : FieldBasedMotion → Bool → Bool → Uses
-field_uses m = uses (Field zero_pair) (field_direction m.forward) (field_direction m.backward)
+abbrev pub field_wanted : Motion FieldVectorPair → Uses
+field_wanted = wanted_by Field zero_pair
+
+abbrev pub frame_uses : Motion MotionVectorPel → Bool → Bool → Uses
+frame_uses = uses_by Frame zero_vector
+
+abbrev pub field_uses : Motion FieldVectorPair → Bool → Bool → Uses
+field_uses = uses_by Field zero_pair
 
 -- ---- 7.6.3.7: the vectors of the chrominance
 

@@ -1,8 +1,8 @@
 -- The scope (docs/SCOPE.md, "Placing a macroblock"): a macroblock's bytes go to the planes of a picture, each to the place that prediction
 -- forms it for, and nothing else is written. On lists of numbers: a sample need not be a byte. Nothing here is the standard's.
-use Rattle.std.specs.Prelude.{Bool, not, ◌&&◌, List, [], ◌∷◌, ℕ, zero, suc, ◌+◌, ◌*◌, ◌/◌, ◌%◌, eqb, ltb, set, take, drop}
-use Rattle.combine_predictions.specs.Refusals.{wrong_length, cause, or_else}
-use Rattle.forming_predictions.specs.Refusals.{outside_domain, side_fits}
+use Rattle.std.specs.Prelude.{Bool, not, ◌&&◌, List, [], ◌∷◌, ℕ, zero, suc, ◌+◌, ◌*◌, ◌/◌, ◌%◌, eqb, ltb, set, take, drop, Option}
+use Rattle.combine_predictions.specs.Refusals.{cause, or_else}
+use Rattle.forming_predictions.specs.Refusals.{side_fits}
 use Rattle.pmv.specs.declared.kinds.ChromaFormat.{ChromaFormat}
 use Rattle.inter_reconstruction.specs.Components.{ColourComponent, luma, cb, cr, columns_of, lines_of, block_width, block_bytes, macroblock_bytes}
 use Rattle.inter_reconstruction.specs.Frames.{Samples, plane_of}
@@ -10,8 +10,8 @@ use Rattle.inter_reconstruction.specs.Macroblock.{column_at, row_at, first_colum
 use Rattle.inter_reconstruction.specs.Refusals.{every_component, planes_fit}
 use Rattle.inter_reconstruction.specs.declared.frames.FrameGeometry.{FrameGeometry}
 use Rattle.inter_reconstruction.specs.declared.frames.FrameBuffer.{FrameBuffer}
-use Rattle.inter_reconstruction.specs.declared.placing.MacroblockPlacement.{MacroblockPlacement}
-use Rattle.inter_reconstruction.specs.declared.placing.MacroblockPlacement.TheVariants.{Done, Refused}
+use Rattle.inter_reconstruction.specs.declared.placing.PlacingRefusal.{PlacingRefusal}
+use Rattle.inter_reconstruction.specs.declared.placing.PlacingRefusal.TheVariants.{OutsideDomain, WrongLength, IllFormed}
 
 -- ---- what is written
 
@@ -48,9 +48,11 @@ placed p col row bytes planes c =
 
 -- ---- what is refused: 14, 20, 18
 
--- the picture is ill-formed, or the cell outside it
-abbrev pub ill_formed : ℕ
-ill_formed = 20
+-- the numbers of the reasons
+abbrev pub placing_number : PlacingRefusal → ℕ
+placing_number OutsideDomain = 14
+placing_number WrongLength = 18
+placing_number IllFormed = 20
 
 -- neither of the picture's sides is over 16,384
 abbrev pub declared_fit : FrameGeometry → Bool
@@ -82,19 +84,8 @@ unfoldable pub well_formed : FrameBuffer → Bool
 well_formed p = whole_sides p.geometry && every_component (plane_sides_fit p)
 
 -- the picture with the lengths of its planes, how many bytes there are to place, and the cell
-abbrev pub placing_refusal : FrameBuffer → (ColourComponent → ℕ) → ℕ → ℕ → ℕ → ℕ
+abbrev pub placing_refusal : FrameBuffer → (ColourComponent → ℕ) → ℕ → ℕ → ℕ → Option PlacingRefusal
 placing_refusal p n bytes col row =
-    or_else (cause (not (picture_fits p n)) outside_domain)
-    (or_else (cause (not (well_formed p && cell_inside p.geometry col row)) ill_formed)
-    (cause (not (eqb bytes (macroblock_bytes p.geometry.chroma_format))) wrong_length))
-
--- ---- the answer
-
-abbrev pub placing_number : MacroblockPlacement → ℕ
-placing_number Done = 0
-placing_number (Refused n) = n
-
--- the answer with this number
-abbrev pub placing_answer : ℕ → MacroblockPlacement
-placing_answer zero = Done
-placing_answer (suc n) = Refused (suc n)
+    or_else (cause (not (picture_fits p n)) OutsideDomain)
+    (or_else (cause (not (well_formed p && cell_inside p.geometry col row)) IllFormed)
+    (cause (not (eqb bytes (macroblock_bytes p.geometry.chroma_format))) WrongLength))

@@ -1,32 +1,31 @@
 -- The scope (docs/SCOPE.md, "When a call refuses"): what the prediction of a macroblock refuses, from numbers, sides and lengths alone,
 -- never from a sample. 13; 18; 16; 17; 15 of the forward reference, then of the backward one; 14 over the references that are used. Nothing
 -- here is the standard's.
-use Rattle.std.specs.Prelude.{Bool, not, ◌&&◌, ◌||◌, ℕ, eqb, ltb}
-use Rattle.combine_predictions.specs.Refusals.{wrong_length, cause, or_else}
-use Rattle.forming_predictions.specs.Refusals.{outside_domain, plane_fits}
+use Rattle.std.specs.Prelude.{Bool, not, ◌&&◌, ◌||◌, ℕ, eqb, ltb, Option, Some, None}
+use Rattle.combine_predictions.specs.Refusals.{cause, or_else}
+use Rattle.forming_predictions.specs.Refusals.{plane_fits}
 use Rattle.pmv.specs.Kinds.{chroma_number}
 use Rattle.inter_reconstruction.specs.Components.{ColourComponent, luma, cb, cr, macroblock_bytes}
 use Rattle.inter_reconstruction.specs.Frames.{plane_of}
 use Rattle.inter_reconstruction.specs.declared.frames.FrameGeometry.{FrameGeometry}
 use Rattle.inter_reconstruction.specs.declared.frames.FrameBuffer.{FrameBuffer}
-use Rattle.inter_reconstruction.specs.declared.frames.ReferenceFrame.{ReferenceFrame}
-use Rattle.inter_reconstruction.specs.declared.frames.ReferenceFrame.TheVariants.{Absent, Present}
 use Rattle.inter_reconstruction.specs.declared.motion.Uses.{Uses}
 use Rattle.inter_reconstruction.specs.declared.motion.Uses.TheVariants.{Forward, Backward, Both}
+use Rattle.inter_reconstruction.specs.declared.macroblock.PredictionRefusal.{PredictionRefusal}
+use Rattle.inter_reconstruction.specs.declared.macroblock.PredictionRefusal.TheVariants.{CellTooFar, OutsideDomain, OtherGeometry, ForwardMissing, BackwardMissing, WrongLength}
 
+-- the numbers of the reasons
+abbrev pub prediction_number : PredictionRefusal → ℕ
 -- the column or the row is over 1,023
-abbrev pub cell_too_far : ℕ
-cell_too_far = 13
-
+prediction_number CellTooFar = 13
+-- a plane's length is not width times height, or a side is outside the domain
+prediction_number OutsideDomain = 14
 -- a reference's geometry is not the destination's
-abbrev pub other_geometry : ℕ
-other_geometry = 15
-
-abbrev pub forward_missing : ℕ
-forward_missing = 16
-
-abbrev pub backward_missing : ℕ
-backward_missing = 17
+prediction_number OtherGeometry = 15
+prediction_number ForwardMissing = 16
+prediction_number BackwardMissing = 17
+-- the output is not as long as a macroblock
+prediction_number WrongLength = 18
 
 -- ---- the causes
 
@@ -45,43 +44,43 @@ every_component t = t luma && (t cb && t cr)
 unfoldable pub planes_fit : FrameBuffer → (ColourComponent → ℕ) → Bool
 planes_fit b n = every_component (λ (c : ColourComponent). plane_fits (plane_of b c).width (plane_of b c).height (n c))
 
--- ---- the numbers
+-- ---- what is refused
 
-abbrev pub cell_refusal : ℕ → ℕ → ℕ
-cell_refusal col row = cause (too_far col || too_far row) cell_too_far
+abbrev pub cell_refusal : ℕ → ℕ → Option PredictionRefusal
+cell_refusal col row = cause (too_far col || too_far row) CellTooFar
 
-abbrev pub missing : ℕ → ReferenceFrame → ℕ
-missing number Absent = number
-missing number (Present b) = 0
+abbrev pub missing : PredictionRefusal → Option FrameBuffer → Option PredictionRefusal
+missing reason None = Some reason
+missing reason (Some b) = None
 
-abbrev pub geometry_refusal : FrameGeometry → ReferenceFrame → ℕ
-geometry_refusal dest Absent = 0
-geometry_refusal dest (Present b) = cause (not (same_geometry b.geometry dest)) other_geometry
+abbrev pub geometry_refusal : FrameGeometry → Option FrameBuffer → Option PredictionRefusal
+geometry_refusal dest None = None
+geometry_refusal dest (Some b) = cause (not (same_geometry b.geometry dest)) OtherGeometry
 
-abbrev pub planes_refusal : ReferenceFrame → (ColourComponent → ℕ) → ℕ
-planes_refusal Absent n = 0
-planes_refusal (Present b) n = cause (not (planes_fit b n)) outside_domain
+abbrev pub planes_refusal : Option FrameBuffer → (ColourComponent → ℕ) → Option PredictionRefusal
+planes_refusal None n = None
+planes_refusal (Some b) n = cause (not (planes_fit b n)) OutsideDomain
 
--- of one reference; `number` is that of its absence
-abbrev pub one_refusal : ℕ → FrameGeometry → ReferenceFrame → (ColourComponent → ℕ) → ℕ
-one_refusal number dest r n = or_else (missing number r) (or_else (geometry_refusal dest r) (planes_refusal r n))
+-- of one reference; `reason` is that of its absence
+abbrev pub one_refusal : PredictionRefusal → FrameGeometry → Option FrameBuffer → (ColourComponent → ℕ) → Option PredictionRefusal
+one_refusal reason dest r n = or_else (missing reason r) (or_else (geometry_refusal dest r) (planes_refusal r n))
 
 -- Where both directions are used, both references are there or both absent (Motion.antt, `remaining`): 17 is backward motion's alone
 -- (proofs/Directions.antt, `backward_only`).
-abbrev pub references_refusal : FrameGeometry → ReferenceFrame → (ColourComponent → ℕ) → ReferenceFrame → (ColourComponent → ℕ) → Uses → ℕ
-references_refusal dest f n b k (Forward d) = one_refusal forward_missing dest f n
-references_refusal dest f n b k (Backward e) = one_refusal backward_missing dest b k
+abbrev pub references_refusal : FrameGeometry → Option FrameBuffer → (ColourComponent → ℕ) → Option FrameBuffer → (ColourComponent → ℕ) → Uses → Option PredictionRefusal
+references_refusal dest f n b k (Forward d) = one_refusal ForwardMissing dest f n
+references_refusal dest f n b k (Backward e) = one_refusal BackwardMissing dest b k
 references_refusal dest f n b k (Both d e) =
-    or_else (missing forward_missing f)
-    (or_else (missing backward_missing b)
+    or_else (missing ForwardMissing f)
+    (or_else (missing BackwardMissing b)
     (or_else (geometry_refusal dest f)
     (or_else (geometry_refusal dest b)
     (or_else (planes_refusal f n)
     (planes_refusal b k)))))
 
 -- the destination's geometry, the output's length, the references with the lengths of their planes, which of them are used, and the cell
-abbrev pub prediction_refusal : FrameGeometry → ℕ → ReferenceFrame → (ColourComponent → ℕ) → ReferenceFrame → (ColourComponent → ℕ) → Uses → ℕ → ℕ → ℕ
+abbrev pub prediction_refusal : FrameGeometry → ℕ → Option FrameBuffer → (ColourComponent → ℕ) → Option FrameBuffer → (ColourComponent → ℕ) → Uses → ℕ → ℕ → Option PredictionRefusal
 prediction_refusal dest out f n b k u col row =
     or_else (cell_refusal col row)
-    (or_else (cause (not (eqb out (macroblock_bytes dest.chroma_format))) wrong_length)
+    (or_else (cause (not (eqb out (macroblock_bytes dest.chroma_format))) WrongLength)
     (references_refusal dest f n b k u))

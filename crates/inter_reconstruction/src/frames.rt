@@ -1,13 +1,12 @@
 //! Frames as the calls see them: numbers here, and the samples of the three planes passed beside them.
 ghost use Rattle.std.specs.Prelude.{◌≡◌};
 ghost use Rattle.inter_reconstruction.specs.Components.{block_width, block_height, cb};
-ghost use Rattle.inter_reconstruction.specs.Frames.{is_present};
 
 use forming_predictions::{BlockSize, ReferencePlane};
 use pmv::kinds::ChromaFormat;
 
 /// What a frame declares.
-#[derive(Clone, Copy)]
+#[derive(Clone, Copy, Debug, PartialEq, Eq)]
 pub struct FrameGeometry {
     pub width: usize,
     pub height: usize,
@@ -15,31 +14,12 @@ pub struct FrameGeometry {
 }
 
 /// A frame: what it declares, and the sides that its planes have.
-#[derive(Clone, Copy)]
+#[derive(Clone, Copy, Debug, PartialEq, Eq)]
 pub struct FrameBuffer {
     pub geometry: FrameGeometry,
     pub y: ReferencePlane,
     pub cb: ReferencePlane,
     pub cr: ReferencePlane,
-}
-
-/// A reference frame, where there is one.
-#[derive(Clone, Copy)]
-pub enum ReferenceFrame {
-    Absent,
-    Present(FrameBuffer),
-}
-
-impl ReferenceFrame {
-    /// Whether there is one.
-    pub fn is_present(self) -> bool
-        ensures { result ≡ is_present self }
-    {
-        match self {
-            ReferenceFrame::Absent => false,
-            ReferenceFrame::Present(_) => true,
-        }
-    }
 }
 
 /// The sides of a macroblock's part in a chrominance plane.

@@ -1,60 +1,67 @@
 //! ISO/IEC 13818-2, 7.6.4 to 7.6.7: the calls that predict a macroblock, with all that they refuse.
-ghost use Rattle.std.specs.Prelude.{◌≡◌, ◌++◌, ◌+◌, ◌*◌, ◌%◌, ◌≤◌, ◌<◌, length, false};
-ghost use Rattle.std.proofs.Math.Option.{some};
+ghost use Rattle.std.specs.Prelude.{◌≡◌, ◌++◌, ◌+◌, ◌*◌, ◌%◌, ◌≤◌, ◌<◌, length, false, Some, None, Ok, is_some};
+ghost use Rattle.std.specs.Result.{result_err};
 ghost use Rattle.laws.specs.Tabulate.{tabulate};
-ghost use Rattle.combine_predictions.specs.Refusals.{unless_refused};
+ghost use Rattle.combine_predictions.specs.Refusals.{answered, unless_refused};
 ghost use Rattle.forming_predictions.specs.Means.{rounded};
 ghost use Rattle.inter_reconstruction.specs.declared.motion.DirectionMotion.TheVariants.{Frame, Field};
 ghost use Rattle.inter_reconstruction.specs.declared.motion.Uses.TheVariants.{Both};
+ghost use Rattle.inter_reconstruction.specs.declared.macroblock.PredictionRefusal.TheVariants.{BackwardMissing};
 ghost use Rattle.inter_reconstruction.specs.Components.{ColourComponent};
-ghost use Rattle.inter_reconstruction.specs.Motion.{frame_wanted, field_wanted, frame_uses, field_uses, field_vector_of, BackwardAlone};
-ghost use Rattle.inter_reconstruction.specs.Frames.{read_plane, samples_of, read_frame, lengths_of, is_present, read_reference};
+ghost use Rattle.inter_reconstruction.specs.Motion.{wanted_by, uses_by, field_vector_of, BackwardAlone};
+ghost use Rattle.inter_reconstruction.specs.Frames.{read_plane, samples_of, read_frame, lengths_of, read_reference};
 ghost use Rattle.inter_reconstruction.specs.Macroblock.{field_sample, direction_sample, used_sample, rectangle, predicted};
-ghost use Rattle.inter_reconstruction.specs.Refusals.{backward_missing, same_geometry, planes_fit, one_refusal, references_refusal, prediction_refusal};
-ghost use Rattle.inter_reconstruction.specs.Answers.{accepted, directions_of, prediction_answer, prediction_directions, prediction_number};
+ghost use Rattle.inter_reconstruction.specs.Refusals.{prediction_number, same_geometry, planes_fit, one_refusal, references_refusal, prediction_refusal};
+ghost use Rattle.inter_reconstruction.specs.Answers.{accepted, directions_of, prediction_directions};
 ghost use Rattle.inter_reconstruction.specs.inner.Blocks.{PlaneFits, BlockAt, FieldRows, HalvesAt, field_halves, interleaved_cell, forward_bytes};
 ghost use Rattle.inter_reconstruction.specs.inner.Planes.{FrameFits, CellFits, BlocksFit, directed_part, directed, chroma_blocks, frame_refusal, frames_refusal, missing_in, destination_refusal};
 
-use crate::frames::{FrameBuffer, FrameGeometry, ReferenceFrame, chroma_mb_extent};
+use crate::frames::{FrameBuffer, FrameGeometry, chroma_mb_extent};
 use crate::motion::{
-    DirectionMotion, FieldBasedMotion, FieldVector, FieldVectorPair, FrameMotion, MotionVectorPel,
+    DirectionMotion, DirectionVectors, FieldVector, FieldVectorPair, Motion, MotionVectorPel,
     UsedDirections, Uses,
 };
 use crate::samples::copy_samples;
 use combine_predictions::{
-    PredictionDirection, WRONG_LENGTH, average_predictions, combine_directional_predictions,
+    PredictionDirection, average_predictions, combine_directional_predictions,
 };
 use forming_predictions::{
-    BlockSize, FieldReference, OUTSIDE_DOMAIN, ReferencePlane, plane_fits, predict_block,
-    predict_field_block,
+    BlockSize, FieldReference, ReferencePlane, plane_fits, predict_block, predict_field_block,
 };
 use pmv::kinds::ChromaFormat;
-
-/// Refusal: the column or the row is over 1,023.
-pub const CELL_TOO_FAR: u8 = 13;
-/// Refusal: a reference's width, height or format is not the destination's.
-pub const OTHER_GEOMETRY: u8 = 15;
-/// Refusal: the forward reference is used, and absent; of two directions, both references are.
-pub const FORWARD_MISSING: u8 = 16;
-/// Refusal: the backward reference is used alone, and absent.
-pub const BACKWARD_MISSING: u8 = 17;
-/// No refusal: the references are there and right, and the macroblock is written.
-const PREDICTED: u8 = 0;
 
 /// The last column and the last row of macroblocks that are taken.
 pub const LAST_CELL: usize = 1023;
 
 /// What an accepted call tells of its prediction.
-#[derive(Clone, Copy)]
+#[derive(Clone, Copy, Debug, PartialEq, Eq)]
 pub struct Accepted {
     pub directions: UsedDirections,
 }
 
-/// The macroblock was written, or the number of the refusal, which writes nothing.
-#[derive(Clone, Copy)]
-pub enum MacroblockPrediction {
-    Done(Accepted),
-    Refused(u8),
+/// Why the prediction of a macroblock is refused. Each reason has its number of docs/SCOPE.md.
+#[derive(Clone, Copy, Debug, PartialEq, Eq)]
+pub enum PredictionRefusal {
+    /// The column or the row is over 1,023.
+    CellTooFar = 13,
+    /// A plane's length is not width times height, or a side is outside the domain.
+    OutsideDomain = 14,
+    /// A reference's width, height or format is not the destination's.
+    OtherGeometry = 15,
+    /// The forward reference is used, and absent; of two directions, both references are.
+    ForwardMissing = 16,
+    /// The backward reference is used alone, and absent.
+    BackwardMissing = 17,
+    /// The output is not as long as a macroblock.
+    WrongLength = 18,
+}
+
+impl From<PredictionRefusal> for u32 {
+    ghost from_gives = { λ refusal number. number ≡ prediction_number refusal };
+
+    fn from(refusal: PredictionRefusal) -> u32 {
+        refusal as u32
+    }
 }
 
 // ---- one component: the block of one direction, or the mean of two. Nothing here knows which component it is
@@ -85,7 +92,8 @@ fn predict_rows(
         v.horizontal,
         v.vertical,
         out,
-    );
+    )
+    .unwrap();
 }
 
 /// A block of a field's lines.
@@ -119,7 +127,8 @@ fn predict_lines(
         v.horizontal,
         v.vertical,
         out,
-    );
+    )
+    .unwrap();
 }
 
 /// A row of 8 or 16, by eights: a copy of a fixed length is one load and one store, and no call.
@@ -140,14 +149,12 @@ fn interleave(halves: &[u8], width: usize, half: usize, out: &mut [u8])
     ensures { out.new ≡ tabulate (width * (half + half)) (interleaved_cell halves.now width half) }
 {
     let height = half + half;
-    let mut r: usize = 0;
-    while r < height {
+    for r in 0..height {
         let a = (r % 2 * half + r / 2) * width;
         let b = a + width;
         let o = r * width;
         let e = o + width;
         copy_row(&halves[a..b], &mut out[o..e]);
-        r += 1;
     }
 }
 
@@ -177,8 +184,7 @@ fn predict_halves(
     ensures { out.new ≡ field_halves (read_plane plane samples.now) pair width height x line }
 {
     let n = width * height;
-    let mut f: usize = 0;
-    while f < 2 {
+    for f in 0..2 {
         let a = f * n;
         let e = a + n;
         predict_lines(
@@ -191,7 +197,6 @@ fn predict_halves(
             vector_of(pair, f),
             &mut out[a..e],
         );
-        f += 1;
     }
 }
 
@@ -309,7 +314,7 @@ fn predict_two(
         backward_motion,
         &mut second[..n],
     );
-    average_predictions(&first[..n], &second[..n], out);
+    average_predictions(&first[..n], &second[..n], out).unwrap();
 }
 
 // ---- the three components of one direction
@@ -534,21 +539,10 @@ fn predict_from_two(
 
 // ---- the calls, with all that they refuse
 
-fn answer_of(number: u8, told: Accepted) -> MacroblockPrediction
-    ensures { result ≡ prediction_answer number told }
-{
-    if number == 0 {
-        return MacroblockPrediction::Done(told);
-    }
-    MacroblockPrediction::Refused(number)
-}
-
 fn same_geometry(a: FrameGeometry, b: FrameGeometry) -> bool
     ensures { result ≡ same_geometry a b }
 {
-    let f = a.chroma_format;
-    let g = b.chroma_format;
-    (a.width == b.width) & ((a.height == b.height) & (f.number() == g.number()))
+    a == b
 }
 
 /// Each plane of a frame is in the domain: no side is too long, and it has as many samples as its sides say.
@@ -573,17 +567,17 @@ fn predict_with_one(
     mb_col: usize,
     mb_row: usize,
     out: &mut [u8],
-) -> u8
+) -> Result<(), PredictionRefusal>
     requires { CellFits dest.chroma_format mb_col mb_row (length out.old) }
-    ensures number { result ≡ frame_refusal dest frame (lengths_of (samples_of y.now cb.now cr.now)) }
-    ensures buffer { out.new ≡ unless_refused result (directed dest.chroma_format (read_frame frame (samples_of y.now cb.now cr.now)) motion mb_col mb_row) out.old }
+    ensures answer { result ≡ answered (frame_refusal dest frame (lengths_of (samples_of y.now cb.now cr.now))) tt }
+    ensures buffer { out.new ≡ unless_refused (result_err result) (directed dest.chroma_format (read_frame frame (samples_of y.now cb.now cr.now)) motion mb_col mb_row) out.old }
 {
     let declared = frame.geometry;
     if !same_geometry(declared, dest) {
-        return OTHER_GEOMETRY;
+        return Err(PredictionRefusal::OtherGeometry);
     }
     if !planes_fit(frame, y, cb, cr) {
-        return OUTSIDE_DOMAIN;
+        return Err(PredictionRefusal::OutsideDomain);
     }
     let chroma_format = dest.chroma_format;
     predict_from_one(
@@ -598,17 +592,17 @@ fn predict_with_one(
         mb_row,
         out,
     );
-    PREDICTED
+    Ok(())
 }
 
 /// The refusal of a direction whose reference is absent.
-fn missing_in(direction: PredictionDirection) -> u8
+fn missing_in(direction: PredictionDirection) -> PredictionRefusal
     ensures { result ≡ missing_in direction }
 {
     match direction {
-        PredictionDirection::Forward => FORWARD_MISSING,
-        PredictionDirection::Backward => BACKWARD_MISSING,
-        PredictionDirection::Skipped => FORWARD_MISSING,
+        PredictionDirection::Forward => PredictionRefusal::ForwardMissing,
+        PredictionDirection::Backward => PredictionRefusal::BackwardMissing,
+        PredictionDirection::Skipped => PredictionRefusal::ForwardMissing,
     }
 }
 
@@ -617,21 +611,21 @@ fn predict_alone(
     dest: FrameGeometry,
     direction: PredictionDirection,
     motion: DirectionMotion,
-    reference: ReferenceFrame,
+    reference: Option<FrameBuffer>,
     y: &[u8],
     cb: &[u8],
     cr: &[u8],
     mb_col: usize,
     mb_row: usize,
     out: &mut [u8],
-) -> u8
+) -> Result<(), PredictionRefusal>
     requires { CellFits dest.chroma_format mb_col mb_row (length out.old) }
-    ensures number { result ≡ one_refusal (missing_in direction) dest reference (lengths_of (samples_of y.now cb.now cr.now)) }
-    ensures buffer { out.new ≡ unless_refused result (directed dest.chroma_format (read_reference reference (samples_of y.now cb.now cr.now)) motion mb_col mb_row) out.old }
+    ensures answer { result ≡ answered (one_refusal (missing_in direction) dest reference (lengths_of (samples_of y.now cb.now cr.now))) tt }
+    ensures buffer { out.new ≡ unless_refused (result_err result) (directed dest.chroma_format (read_reference reference (samples_of y.now cb.now cr.now)) motion mb_col mb_row) out.old }
 {
     match reference {
-        ReferenceFrame::Absent => missing_in(direction),
-        ReferenceFrame::Present(frame) => predict_with_one(
+        None => Err(missing_in(direction)),
+        Some(frame) => predict_with_one(
             dest, direction, motion, frame, y, cb, cr, mb_col, mb_row, out,
         ),
     }
@@ -653,29 +647,29 @@ fn predict_with_two(
     mb_col: usize,
     mb_row: usize,
     out: &mut [u8],
-) -> u8
+) -> Result<(), PredictionRefusal>
     requires { CellFits dest.chroma_format mb_col mb_row (length out.old) }
-    ensures number { let forward_lengths = lengths_of (samples_of forward_y.now forward_cb.now forward_cr.now) in
+    ensures answer { let forward_lengths = lengths_of (samples_of forward_y.now forward_cb.now forward_cr.now) in
         let backward_lengths = lengths_of (samples_of backward_y.now backward_cb.now backward_cr.now) in
-        result ≡ frames_refusal dest forward forward_lengths backward backward_lengths }
+        result ≡ answered (frames_refusal dest forward forward_lengths backward backward_lengths) tt }
     ensures buffer { let forward_read = read_frame forward (samples_of forward_y.now forward_cb.now forward_cr.now) in
         let backward_read = read_frame backward (samples_of backward_y.now backward_cb.now backward_cr.now) in
         let prediction = predicted rounded dest.chroma_format forward_read backward_read (Both forward_motion backward_motion) mb_col mb_row in
-        out.new ≡ unless_refused result prediction out.old }
+        out.new ≡ unless_refused (result_err result) prediction out.old }
 {
     let forward_declared = forward.geometry;
     if !same_geometry(forward_declared, dest) {
-        return OTHER_GEOMETRY;
+        return Err(PredictionRefusal::OtherGeometry);
     }
     let backward_declared = backward.geometry;
     if !same_geometry(backward_declared, dest) {
-        return OTHER_GEOMETRY;
+        return Err(PredictionRefusal::OtherGeometry);
     }
     if !planes_fit(forward, forward_y, forward_cb, forward_cr) {
-        return OUTSIDE_DOMAIN;
+        return Err(PredictionRefusal::OutsideDomain);
     }
     if !planes_fit(backward, backward_y, backward_cb, backward_cr) {
-        return OUTSIDE_DOMAIN;
+        return Err(PredictionRefusal::OutsideDomain);
     }
     let chroma_format = dest.chroma_format;
     predict_from_two(
@@ -694,7 +688,7 @@ fn predict_with_two(
         mb_row,
         out,
     );
-    PREDICTED
+    Ok(())
 }
 
 /// Both directions: 16, then 17, where their references are absent. From the calls above either both are absent or none is.
@@ -702,32 +696,32 @@ fn predict_both(
     dest: FrameGeometry,
     forward_motion: DirectionMotion,
     backward_motion: DirectionMotion,
-    forward: ReferenceFrame,
+    forward: Option<FrameBuffer>,
     forward_y: &[u8],
     forward_cb: &[u8],
     forward_cr: &[u8],
-    backward: ReferenceFrame,
+    backward: Option<FrameBuffer>,
     backward_y: &[u8],
     backward_cb: &[u8],
     backward_cr: &[u8],
     mb_col: usize,
     mb_row: usize,
     out: &mut [u8],
-) -> u8
+) -> Result<(), PredictionRefusal>
     requires { CellFits dest.chroma_format mb_col mb_row (length out.old) }
-    ensures number { let forward_lengths = lengths_of (samples_of forward_y.now forward_cb.now forward_cr.now) in
+    ensures answer { let forward_lengths = lengths_of (samples_of forward_y.now forward_cb.now forward_cr.now) in
         let backward_lengths = lengths_of (samples_of backward_y.now backward_cb.now backward_cr.now) in
-        result ≡ references_refusal dest forward forward_lengths backward backward_lengths (Both forward_motion backward_motion) }
+        result ≡ answered (references_refusal dest forward forward_lengths backward backward_lengths (Both forward_motion backward_motion)) tt }
     ensures buffer { let forward_read = read_reference forward (samples_of forward_y.now forward_cb.now forward_cr.now) in
         let backward_read = read_reference backward (samples_of backward_y.now backward_cb.now backward_cr.now) in
         let prediction = predicted rounded dest.chroma_format forward_read backward_read (Both forward_motion backward_motion) mb_col mb_row in
-        out.new ≡ unless_refused result prediction out.old }
+        out.new ≡ unless_refused (result_err result) prediction out.old }
 {
     match forward {
-        ReferenceFrame::Absent => FORWARD_MISSING,
-        ReferenceFrame::Present(first) => match backward {
-            ReferenceFrame::Absent => BACKWARD_MISSING,
-            ReferenceFrame::Present(second) => predict_with_two(
+        None => Err(PredictionRefusal::ForwardMissing),
+        Some(first) => match backward {
+            None => Err(PredictionRefusal::BackwardMissing),
+            Some(second) => predict_with_two(
                 dest,
                 forward_motion,
                 backward_motion,
@@ -748,221 +742,164 @@ fn predict_both(
 }
 
 /// 13, then 18.
-fn destination_refusal(dest: FrameGeometry, mb_col: usize, mb_row: usize, room: usize) -> u8
-    ensures { result ≡ destination_refusal dest room mb_col mb_row }
+fn check_destination(
+    dest: FrameGeometry,
+    mb_col: usize,
+    mb_row: usize,
+    room: usize,
+) -> Result<(), PredictionRefusal>
+    ensures { result ≡ answered (destination_refusal dest room mb_col mb_row) tt }
 {
     if (LAST_CELL < mb_col) | (LAST_CELL < mb_row) {
-        return CELL_TOO_FAR;
+        return Err(PredictionRefusal::CellTooFar);
     }
     let chroma_format = dest.chroma_format;
     let size = chroma_mb_extent(chroma_format);
     let n = size.width * size.height;
     if room != 256 + (n + n) {
-        return WRONG_LENGTH;
+        return Err(PredictionRefusal::WrongLength);
     }
-    0
+    Ok(())
 }
 
-/// Writes the prediction of a frame-based macroblock: luminance, then Cb, then Cr, each row after row. Nothing is written by a refusal: of a
+/// The directions that are used, with their references: what `prediction_refusal` has after the destination.
+fn predict_used(
+    dest: FrameGeometry,
+    used: Uses,
+    forward: Option<FrameBuffer>,
+    forward_y: &[u8],
+    forward_cb: &[u8],
+    forward_cr: &[u8],
+    backward: Option<FrameBuffer>,
+    backward_y: &[u8],
+    backward_cb: &[u8],
+    backward_cr: &[u8],
+    mb_col: usize,
+    mb_row: usize,
+    out: &mut [u8],
+) -> Result<Accepted, PredictionRefusal>
+    requires { CellFits dest.chroma_format mb_col mb_row (length out.old) }
+    ensures answer { let forward_lengths = lengths_of (samples_of forward_y.now forward_cb.now forward_cr.now) in
+        let backward_lengths = lengths_of (samples_of backward_y.now backward_cb.now backward_cr.now) in
+        result ≡ answered (references_refusal dest forward forward_lengths backward backward_lengths used) (accepted used) }
+    ensures buffer { let forward_read = read_reference forward (samples_of forward_y.now forward_cb.now forward_cr.now) in
+        let backward_read = read_reference backward (samples_of backward_y.now backward_cb.now backward_cr.now) in
+        let prediction = predicted rounded dest.chroma_format forward_read backward_read used mb_col mb_row in
+        out.new ≡ unless_refused (result_err result) prediction out.old }
+{
+    match used {
+        Uses::Forward(d) => {
+            predict_alone(
+                dest,
+                PredictionDirection::Forward,
+                d,
+                forward,
+                forward_y,
+                forward_cb,
+                forward_cr,
+                mb_col,
+                mb_row,
+                out,
+            )?;
+            Ok(Accepted {
+                directions: UsedDirections::Forward,
+            })
+        }
+        Uses::Backward(e) => {
+            predict_alone(
+                dest,
+                PredictionDirection::Backward,
+                e,
+                backward,
+                backward_y,
+                backward_cb,
+                backward_cr,
+                mb_col,
+                mb_row,
+                out,
+            )?;
+            Ok(Accepted {
+                directions: UsedDirections::Backward,
+            })
+        }
+        Uses::Both(d, e) => {
+            predict_both(
+                dest,
+                d,
+                e,
+                forward,
+                forward_y,
+                forward_cb,
+                forward_cr,
+                backward,
+                backward_y,
+                backward_cb,
+                backward_cr,
+                mb_col,
+                mb_row,
+                out,
+            )?;
+            Ok(Accepted {
+                directions: UsedDirections::Both,
+            })
+        }
+    }
+}
+
+/// Writes the prediction of a macroblock, frame-based or field-based by its vectors: luminance, then Cb, then Cr, each row after row. Nothing is written by a refusal: of a
 /// cell that is too far, of an output of the wrong length, of a reference that is used and absent, of another geometry than the
 /// destination's, of a plane that is outside the domain.
-pub fn predict_frame_macroblock_planes(
+pub fn predict_macroblock_planes<V: DirectionVectors>(
     dest: FrameGeometry,
-    forward: ReferenceFrame,
+    forward: Option<FrameBuffer>,
     forward_y: &[u8],
     forward_cb: &[u8],
     forward_cr: &[u8],
-    backward: ReferenceFrame,
+    backward: Option<FrameBuffer>,
     backward_y: &[u8],
     backward_cb: &[u8],
     backward_cr: &[u8],
     mb_col: usize,
     mb_row: usize,
-    motion: FrameMotion,
+    motion: Motion<V>,
     out: &mut [u8],
-) -> MacroblockPrediction
-    ensures answer { let used = frame_uses motion (is_present forward) (is_present backward) in
+) -> Result<Accepted, PredictionRefusal>
+    ensures answer { let used = uses_by V.motion V.still motion (is_some forward) (is_some backward) in
         let forward_lengths = lengths_of (samples_of forward_y.now forward_cb.now forward_cr.now) in
         let backward_lengths = lengths_of (samples_of backward_y.now backward_cb.now backward_cr.now) in
         let refusal = prediction_refusal dest (length out.old) forward forward_lengths backward backward_lengths used mb_col mb_row in
-        result ≡ prediction_answer refusal (accepted used) }
-    ensures directions { let used = frame_uses motion (is_present forward) (is_present backward) in
-        prediction_number result ≡ 0 → prediction_directions result ≡ some (directions_of used) }
-    ensures buffer { let used = frame_uses motion (is_present forward) (is_present backward) in
+        result ≡ answered refusal (accepted used) }
+    ensures directions { let used = uses_by V.motion V.still motion (is_some forward) (is_some backward) in
+        result_err result ≡ None → prediction_directions result ≡ Some (directions_of used) }
+    ensures buffer { let used = uses_by V.motion V.still motion (is_some forward) (is_some backward) in
         let forward_read = read_reference forward (samples_of forward_y.now forward_cb.now forward_cr.now) in
         let backward_read = read_reference backward (samples_of backward_y.now backward_cb.now backward_cr.now) in
         let prediction = predicted rounded dest.chroma_format forward_read backward_read used mb_col mb_row in
-        out.new ≡ unless_refused (prediction_number result) prediction out.old }
+        out.new ≡ unless_refused (result_err result) prediction out.old }
 
     // Samples given by the directions that have motion, where nothing of these is refused, are as they would be by these alone.
-    ensures unchanged { let wanted = frame_wanted motion in
+    ensures unchanged { let wanted = wanted_by V.motion V.still motion in
         let forward_samples = samples_of forward_y.now forward_cb.now forward_cr.now in
         let backward_samples = samples_of backward_y.now backward_cb.now backward_cr.now in
         let refusal = prediction_refusal dest (length out.old) forward (lengths_of forward_samples) backward (lengths_of backward_samples) wanted mb_col mb_row in
         let prediction = predicted rounded dest.chroma_format (read_reference forward forward_samples) (read_reference backward backward_samples) wanted mb_col mb_row in
-        refusal ≡ 0 → (result ≡ prediction_answer 0 (accepted wanted)) × (out.new ≡ prediction) }
-    ensures backward_alone { prediction_number result ≡ backward_missing → BackwardAlone (frame_wanted motion) × (is_present backward ≡ false) }
+        refusal ≡ None → (result ≡ Ok (accepted wanted)) × (out.new ≡ prediction) }
+    ensures backward_alone { result_err result ≡ Some BackwardMissing → BackwardAlone (wanted_by V.motion V.still motion) × (is_some backward ≡ false) }
 {
-    let refusal = destination_refusal(dest, mb_col, mb_row, out.len());
-    if refusal != 0 {
-        return MacroblockPrediction::Refused(refusal);
-    }
-    match motion.uses(forward.is_present(), backward.is_present()) {
-        Uses::Forward(d) => answer_of(
-            predict_alone(
-                dest,
-                PredictionDirection::Forward,
-                d,
-                forward,
-                forward_y,
-                forward_cb,
-                forward_cr,
-                mb_col,
-                mb_row,
-                out,
-            ),
-            Accepted {
-                directions: UsedDirections::Forward,
-            },
-        ),
-        Uses::Backward(e) => answer_of(
-            predict_alone(
-                dest,
-                PredictionDirection::Backward,
-                e,
-                backward,
-                backward_y,
-                backward_cb,
-                backward_cr,
-                mb_col,
-                mb_row,
-                out,
-            ),
-            Accepted {
-                directions: UsedDirections::Backward,
-            },
-        ),
-        Uses::Both(d, e) => answer_of(
-            predict_both(
-                dest,
-                d,
-                e,
-                forward,
-                forward_y,
-                forward_cb,
-                forward_cr,
-                backward,
-                backward_y,
-                backward_cb,
-                backward_cr,
-                mb_col,
-                mb_row,
-                out,
-            ),
-            Accepted {
-                directions: UsedDirections::Both,
-            },
-        ),
-    }
-}
-
-/// The same for a field-based macroblock: the rows of each of its fields go by a vector of their own, which names the field that is read.
-pub fn predict_field_based_macroblock_planes(
-    dest: FrameGeometry,
-    forward: ReferenceFrame,
-    forward_y: &[u8],
-    forward_cb: &[u8],
-    forward_cr: &[u8],
-    backward: ReferenceFrame,
-    backward_y: &[u8],
-    backward_cb: &[u8],
-    backward_cr: &[u8],
-    mb_col: usize,
-    mb_row: usize,
-    motion: FieldBasedMotion,
-    out: &mut [u8],
-) -> MacroblockPrediction
-    ensures answer { let used = field_uses motion (is_present forward) (is_present backward) in
-        let forward_lengths = lengths_of (samples_of forward_y.now forward_cb.now forward_cr.now) in
-        let backward_lengths = lengths_of (samples_of backward_y.now backward_cb.now backward_cr.now) in
-        let refusal = prediction_refusal dest (length out.old) forward forward_lengths backward backward_lengths used mb_col mb_row in
-        result ≡ prediction_answer refusal (accepted used) }
-    ensures directions { let used = field_uses motion (is_present forward) (is_present backward) in
-        prediction_number result ≡ 0 → prediction_directions result ≡ some (directions_of used) }
-    ensures buffer { let used = field_uses motion (is_present forward) (is_present backward) in
-        let forward_read = read_reference forward (samples_of forward_y.now forward_cb.now forward_cr.now) in
-        let backward_read = read_reference backward (samples_of backward_y.now backward_cb.now backward_cr.now) in
-        let prediction = predicted rounded dest.chroma_format forward_read backward_read used mb_col mb_row in
-        out.new ≡ unless_refused (prediction_number result) prediction out.old }
-
-    // Samples given by the directions that have motion, where nothing of these is refused, are as they would be by these alone.
-    ensures unchanged { let wanted = field_wanted motion in
-        let forward_samples = samples_of forward_y.now forward_cb.now forward_cr.now in
-        let backward_samples = samples_of backward_y.now backward_cb.now backward_cr.now in
-        let refusal = prediction_refusal dest (length out.old) forward (lengths_of forward_samples) backward (lengths_of backward_samples) wanted mb_col mb_row in
-        let prediction = predicted rounded dest.chroma_format (read_reference forward forward_samples) (read_reference backward backward_samples) wanted mb_col mb_row in
-        refusal ≡ 0 → (result ≡ prediction_answer 0 (accepted wanted)) × (out.new ≡ prediction) }
-    ensures backward_alone { prediction_number result ≡ backward_missing → BackwardAlone (field_wanted motion) × (is_present backward ≡ false) }
-{
-    let refusal = destination_refusal(dest, mb_col, mb_row, out.len());
-    if refusal != 0 {
-        return MacroblockPrediction::Refused(refusal);
-    }
-    match motion.uses(forward.is_present(), backward.is_present()) {
-        Uses::Forward(d) => answer_of(
-            predict_alone(
-                dest,
-                PredictionDirection::Forward,
-                d,
-                forward,
-                forward_y,
-                forward_cb,
-                forward_cr,
-                mb_col,
-                mb_row,
-                out,
-            ),
-            Accepted {
-                directions: UsedDirections::Forward,
-            },
-        ),
-        Uses::Backward(e) => answer_of(
-            predict_alone(
-                dest,
-                PredictionDirection::Backward,
-                e,
-                backward,
-                backward_y,
-                backward_cb,
-                backward_cr,
-                mb_col,
-                mb_row,
-                out,
-            ),
-            Accepted {
-                directions: UsedDirections::Backward,
-            },
-        ),
-        Uses::Both(d, e) => answer_of(
-            predict_both(
-                dest,
-                d,
-                e,
-                forward,
-                forward_y,
-                forward_cb,
-                forward_cr,
-                backward,
-                backward_y,
-                backward_cb,
-                backward_cr,
-                mb_col,
-                mb_row,
-                out,
-            ),
-            Accepted {
-                directions: UsedDirections::Both,
-            },
-        ),
-    }
+    check_destination(dest, mb_col, mb_row, out.len())?;
+    predict_used(
+        dest,
+        motion.uses(forward.is_some(), backward.is_some()),
+        forward,
+        forward_y,
+        forward_cb,
+        forward_cr,
+        backward,
+        backward_y,
+        backward_cb,
+        backward_cr,
+        mb_col,
+        mb_row,
+        out,
+    )
 }

@@ -1,26 +1,35 @@
 //! Placing: a macroblock's bytes go to the planes of a picture, each to the place that prediction forms it for.
 ghost use Rattle.std.specs.Prelude.{◌≡◌, length};
-ghost use Rattle.combine_predictions.specs.Refusals.{unless_refused};
+ghost use Rattle.std.specs.Result.{result_err};
+ghost use Rattle.combine_predictions.specs.Refusals.{answered, unless_refused};
 ghost use Rattle.inter_reconstruction.specs.Components.{ColourComponent, columns_of, lines_of};
 ghost use Rattle.inter_reconstruction.specs.Frames.{samples_of, lengths_of};
-ghost use Rattle.inter_reconstruction.specs.Placing.{place_at, stored, placed, whole_side, well_formed, cell_inside, picture_fits, placing_refusal, placing_answer, placing_number};
+ghost use Rattle.inter_reconstruction.specs.Placing.{place_at, stored, placed, whole_side, well_formed, cell_inside, picture_fits, placing_number, placing_refusal};
 ghost use Rattle.inter_reconstruction.specs.inner.Placing.{Room, Placeable, sides_are};
 
 use crate::frames::{FrameBuffer, FrameGeometry, chroma_mb_extent};
 use crate::macroblock::planes_fit;
 use crate::samples::copy_samples;
-use combine_predictions::WRONG_LENGTH;
-use forming_predictions::{LARGEST_SIDE, OUTSIDE_DOMAIN, ReferencePlane};
+use forming_predictions::{LARGEST_SIDE, ReferencePlane};
 use pmv::kinds::ChromaFormat;
 
-/// Refusal: the picture is ill-formed, or the cell outside it.
-pub const ILL_FORMED: u8 = 20;
+/// Why a macroblock is not placed. Each reason has its number of docs/SCOPE.md.
+#[derive(Clone, Copy, Debug, PartialEq, Eq)]
+pub enum PlacingRefusal {
+    /// A side is over 16,384, or a plane has another number of samples than its sides say.
+    OutsideDomain = 14,
+    /// There are more or fewer bytes than a macroblock has.
+    WrongLength = 18,
+    /// The picture is ill-formed, or the cell outside it.
+    IllFormed = 20,
+}
 
-/// The macroblock was placed, or the number of the refusal, which writes nothing.
-#[derive(Clone, Copy)]
-pub enum MacroblockPlacement {
-    Done,
-    Refused(u8),
+impl From<PlacingRefusal> for u32 {
+    ghost from_gives = { λ refusal number. number ≡ placing_number refusal };
+
+    fn from(refusal: PlacingRefusal) -> u32 {
+        refusal as u32
+    }
 }
 
 /// Writes a block to a plane of `width` columns, row after row, its first sample at column x and row y.
@@ -36,14 +45,12 @@ fn place_block(
     requires { Room x y block_width block_height width (length plane.old) (length block.now) }
     ensures { plane.new ≡ stored (place_at width block_width x y) block.now plane.old }
 {
-    let mut r: usize = 0;
-    while r < block_height {
+    for r in 0..block_height {
         let a = r * block_width;
         let b = a + block_width;
         let o = (y + r) * width + x;
         let e = o + block_width;
         copy_samples(&block[a..b], &mut plane[o..e]);
-        r += 1;
     }
 }
 
@@ -163,7 +170,7 @@ fn cell_inside(g: FrameGeometry, mb_col: usize, mb_row: usize) -> bool
 }
 
 /// 14, then 20, then 18.
-fn placing_refusal(
+fn check_placing(
     picture: FrameBuffer,
     mb_col: usize,
     mb_row: usize,
@@ -171,23 +178,23 @@ fn placing_refusal(
     y: &[u8],
     cb: &[u8],
     cr: &[u8],
-) -> u8
-    ensures { result ≡ placing_refusal picture (lengths_of (samples_of y.now cb.now cr.now)) bytes mb_col mb_row }
+) -> Result<(), PlacingRefusal>
+    ensures { result ≡ answered (placing_refusal picture (lengths_of (samples_of y.now cb.now cr.now)) bytes mb_col mb_row) tt }
 {
     if !picture_fits(picture, y, cb, cr) {
-        return OUTSIDE_DOMAIN;
+        return Err(PlacingRefusal::OutsideDomain);
     }
     let geometry = picture.geometry;
     if !(well_formed(picture) & cell_inside(geometry, mb_col, mb_row)) {
-        return ILL_FORMED;
+        return Err(PlacingRefusal::IllFormed);
     }
     let chroma_format = geometry.chroma_format;
     let size = chroma_mb_extent(chroma_format);
     let n = size.width * size.height;
     if bytes != 256 + (n + n) {
-        return WRONG_LENGTH;
+        return Err(PlacingRefusal::WrongLength);
     }
-    0
+    Ok(())
 }
 
 /// Writes a macroblock's bytes, luminance, then Cb, then Cr, to the cell of a picture's planes in column `mb_col` and row `mb_row` of its
@@ -201,14 +208,11 @@ pub fn place_macroblock(
     y: &mut [u8],
     cb: &mut [u8],
     cr: &mut [u8],
-) -> MacroblockPlacement
-    ensures answer { result ≡ placing_answer (placing_refusal picture (lengths_of (samples_of y.old cb.old cr.old)) (length bytes.now) mb_col mb_row) }
-    ensures planes { samples_of y.new cb.new cr.new ≡ unless_refused (placing_number result) (placed picture mb_col mb_row bytes.now (samples_of y.old cb.old cr.old)) (samples_of y.old cb.old cr.old) }
+) -> Result<(), PlacingRefusal>
+    ensures answer { result ≡ answered (placing_refusal picture (lengths_of (samples_of y.old cb.old cr.old)) (length bytes.now) mb_col mb_row) tt }
+    ensures planes { samples_of y.new cb.new cr.new ≡ unless_refused (result_err result) (placed picture mb_col mb_row bytes.now (samples_of y.old cb.old cr.old)) (samples_of y.old cb.old cr.old) }
 {
-    let number = placing_refusal(picture, mb_col, mb_row, bytes.len(), y, cb, cr);
-    if number != 0 {
-        return MacroblockPlacement::Refused(number);
-    }
+    check_placing(picture, mb_col, mb_row, bytes.len(), y, cb, cr)?;
     place_planes(picture, mb_col, mb_row, bytes, y, cb, cr);
-    MacroblockPlacement::Done
+    Ok(())
 }

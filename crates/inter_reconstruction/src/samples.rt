@@ -8,9 +8,7 @@ pub fn copy_samples(from: &[u8], out: &mut [u8])
     if out.len() != from.len() {
         return;
     }
-    let mut k: usize = 0;
-    while k < out.len() {
+    for k in 0..out.len() {
         out[k] = from[k];
-        k += 1;
     }
 }

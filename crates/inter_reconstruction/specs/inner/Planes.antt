@@ -1,6 +1,6 @@
 -- What the functions on all three planes ask, and what they give. For private contracts alone.
-use Rattle.std.specs.Prelude.{◌≡◌, not, List, ◌++◌, ℕ, ◌≤◌, eqb}
-use Rattle.combine_predictions.specs.Refusals.{wrong_length, cause, or_else}
+use Rattle.std.specs.Prelude.{◌≡◌, not, List, ◌++◌, ℕ, ◌≤◌, eqb, Option, Some}
+use Rattle.combine_predictions.specs.Refusals.{cause, or_else}
 use Rattle.combine_predictions.specs.declared.PredictionDirection.{PredictionDirection}
 use Rattle.forming_predictions.specs.Means.{rounded}
 use Rattle.pmv.specs.declared.kinds.ChromaFormat.{ChromaFormat}
@@ -8,13 +8,14 @@ use Rattle.inter_reconstruction.specs.Components.{ColourComponent, luma, cb, cr,
 use Rattle.inter_reconstruction.specs.Frames.{Samples, PlaneReading, plane_of}
 use Rattle.inter_reconstruction.specs.Motion.{chroma_motion}
 use Rattle.inter_reconstruction.specs.Macroblock.{direction_sample, used_sample, rectangle, part, macroblock}
-use Rattle.inter_reconstruction.specs.Refusals.{forward_missing, backward_missing, cell_refusal, geometry_refusal, planes_refusal}
+use Rattle.inter_reconstruction.specs.Refusals.{cell_refusal, geometry_refusal, planes_refusal}
 use Rattle.inter_reconstruction.specs.inner.Blocks.{PlaneFits}
 use Rattle.inter_reconstruction.specs.declared.frames.FrameGeometry.{FrameGeometry}
-use Rattle.inter_reconstruction.specs.declared.frames.ReferenceFrame.TheVariants.{Present}
 use Rattle.inter_reconstruction.specs.declared.frames.FrameBuffer.{FrameBuffer}
 use Rattle.inter_reconstruction.specs.declared.motion.DirectionMotion.{DirectionMotion}
 use Rattle.inter_reconstruction.specs.declared.motion.Uses.{Uses}
+use Rattle.inter_reconstruction.specs.declared.macroblock.PredictionRefusal.{PredictionRefusal}
+use Rattle.inter_reconstruction.specs.declared.macroblock.PredictionRefusal.TheVariants.{ForwardMissing, BackwardMissing, WrongLength}
 
 -- every plane of a frame is in the domain
 abbrev pub FrameFits : FrameBuffer → Samples → Type 0
@@ -50,10 +51,10 @@ abbrev pub directed : ChromaFormat → (ColourComponent → PlaneReading) → Di
 directed f read d col row = macroblock f (λ (c : ColourComponent). direction_sample rounded (read c) (motion_of f d c)) col row
 
 -- the refusal of its absence
-abbrev pub missing_in : PredictionDirection → ℕ
-missing_in PredictionDirection.Forward = forward_missing
-missing_in PredictionDirection.Backward = backward_missing
-missing_in PredictionDirection.Skipped = forward_missing
+abbrev pub missing_in : PredictionDirection → PredictionRefusal
+missing_in PredictionDirection.Forward = ForwardMissing
+missing_in PredictionDirection.Backward = BackwardMissing
+missing_in PredictionDirection.Skipped = ForwardMissing
 
 -- ---- both directions
 
@@ -62,18 +63,18 @@ unfoldable pub chroma_blocks : PlaneReading → PlaneReading → PlaneReading �
 chroma_blocks fb fr bb br u w h x y = rectangle w h (used_sample rounded fb bb u) x y ++ rectangle w h (used_sample rounded fr br u) x y
 
 -- what is refused of one reference that is there, and of two
-abbrev pub frame_refusal : FrameGeometry → FrameBuffer → (ColourComponent → ℕ) → ℕ
-frame_refusal dest b n = or_else (geometry_refusal dest (Present b)) (planes_refusal (Present b) n)
+abbrev pub frame_refusal : FrameGeometry → FrameBuffer → (ColourComponent → ℕ) → Option PredictionRefusal
+frame_refusal dest b n = or_else (geometry_refusal dest (Some b)) (planes_refusal (Some b) n)
 
-abbrev pub frames_refusal : FrameGeometry → FrameBuffer → (ColourComponent → ℕ) → FrameBuffer → (ColourComponent → ℕ) → ℕ
+abbrev pub frames_refusal : FrameGeometry → FrameBuffer → (ColourComponent → ℕ) → FrameBuffer → (ColourComponent → ℕ) → Option PredictionRefusal
 frames_refusal dest b n q k =
-    or_else (geometry_refusal dest (Present b))
-    (or_else (geometry_refusal dest (Present q))
-    (or_else (planes_refusal (Present b) n)
-    (planes_refusal (Present q) k)))
+    or_else (geometry_refusal dest (Some b))
+    (or_else (geometry_refusal dest (Some q))
+    (or_else (planes_refusal (Some b) n)
+    (planes_refusal (Some q) k)))
 
 -- ---- the destination
 
 -- what is refused before the references are looked at
-abbrev pub destination_refusal : FrameGeometry → ℕ → ℕ → ℕ → ℕ
-destination_refusal dest out col row = or_else (cell_refusal col row) (cause (not (eqb out (macroblock_bytes dest.chroma_format))) wrong_length)
+abbrev pub destination_refusal : FrameGeometry → ℕ → ℕ → ℕ → Option PredictionRefusal
+destination_refusal dest out col row = or_else (cell_refusal col row) (cause (not (eqb out (macroblock_bytes dest.chroma_format))) WrongLength)

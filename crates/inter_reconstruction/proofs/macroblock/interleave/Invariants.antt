@@ -6,6 +6,3 @@ use Rattle.inter_reconstruction.proofs.macroblock.interleave.Given as goal
 
 abbrev pub invariant-loop-r : goal.invariant-loop-r
 invariant-loop-r l = RowsFilled (interleaved_cell l.halves l.width l.half) l.initial.out l.width (l.half + l.half) l.r l.out
-
-abbrev pub decreases-loop-r : goal.decreases-loop-r
-decreases-loop-r l = l.half + l.half - l.r

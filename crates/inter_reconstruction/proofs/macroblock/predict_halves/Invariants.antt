@@ -8,6 +8,3 @@ use Rattle.inter_reconstruction.proofs.macroblock.predict_halves.Given as goal
 abbrev pub invariant-loop-f : goal.invariant-loop-f
 invariant-loop-f l =
     RowsFilled (λ (k : ℕ). get_or (field_halves (read_plane l.plane l.samples) l.pair l.width l.height l.x l.line) k 0) l.initial.out (l.width * l.height) 2 l.f l.out
-
-abbrev pub decreases-loop-f : goal.decreases-loop-f
-decreases-loop-f l = 2 - l.f

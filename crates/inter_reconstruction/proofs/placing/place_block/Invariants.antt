@@ -9,6 +9,3 @@ invariant-loop-r l = record {
   within : l.r ≤ l.block_height;
   rows : RowsPlaced l.x l.y l.block_width l.width l.r l.block l.initial.plane l.plane;
 }
-
-abbrev pub decreases-loop-r : goal.decreases-loop-r
-decreases-loop-r l = l.block_height - l.r

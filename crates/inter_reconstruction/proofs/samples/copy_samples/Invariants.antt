@@ -6,6 +6,3 @@ use Rattle.inter_reconstruction.proofs.samples.copy_samples.Given as goal
 
 abbrev pub invariant-loop-k : goal.invariant-loop-k
 invariant-loop-k l = Filled (λ (i : ℕ). get_or l.from i 0) l.initial.out l.k l.out
-
-abbrev pub decreases-loop-k : goal.decreases-loop-k
-decreases-loop-k l = length l.initial.out - l.k
