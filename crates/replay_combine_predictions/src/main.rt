@@ -33,16 +33,9 @@ fn averaging(alloc: Global, case: &mut Cursor<'_>) -> Result<bool, Unread> {
     let mut room = [0u8; 1040];
     lists::fill(&mut room, first);
     let kept = room;
-    let averaged = combine_predictions::average_predictions(
-        &forward,
-        &backward,
-        &mut room[..length],
-    );
-    Ok(
-        number_of(averaged) == answer
-            && &room[..length] == after.as_slice()
-            && &room[length..] == &kept[length..],
-    )
+    let (out, behind) = room.split_at_mut(length);
+    let averaged = combine_predictions::average_predictions(&forward, &backward, out);
+    Ok(number_of(averaged) == answer && &*out == after.as_slice() && &*behind == &kept[length..])
 }
 
 /// The direction with this number in the order of the Rust's enum. It has no other one that this call takes.
