@@ -2,6 +2,7 @@
 ghost use Rattle.std.specs.Prelude.{◌≡◌, ◌+◌, ◌*◌, ◌/◌, ◌≤◌, length, Ok, Err};
 ghost use Rattle.std.specs.Result.{MatchResult};
 ghost use Rattle.laws.specs.Tabulate.{tabulate};
+ghost use Rattle.lists.specs.Places.{MovesTo};
 ghost use Rattle.lists.specs.Text.{word_end};
 ghost use Rattle.lists.specs.ByteStrings.{hex_of, bytes_of, is_bytes, ramp, BytesAt};
 
@@ -14,8 +15,7 @@ impl Cursor<'_> {
     /// Reads a byte string of at most so many bytes.
     pub fn bytes<A: Allocator>(&mut self, alloc: A, most: usize) -> Result<Vec<u8, A>, Unread>
         ensures bytes { MatchResult result (λ v. BytesAt self.old.text.now self.old.at most (Ok v.items)) (λ e. BytesAt self.old.text.now self.old.at most (Err e)) }
-        ensures place { self.new.at ≡ word_end self.old.text.now self.old.at }
-        ensures text { self.new.text.now ≡ self.old.text.now }
+        ensures moved { MovesTo self.old self.new (word_end self.old.text.now self.old.at) }
     {
         let word = self.word();
         if !is_bytes(word, most) {

@@ -2,6 +2,7 @@
 ghost use Rattle.std.specs.Prelude.{◌≡◌, ◌^◌, ◌≤◌, ◌<◌, cond, length, Some, None, IfSome, Ok, Err, OnErr};
 ghost use Rattle.std.specs.Result.{MatchResult};
 ghost use Rattle.lists.specs.declared.unread.Unread.TheVariants.{Malformed};
+ghost use Rattle.lists.specs.Places.{MovesTo};
 ghost use Rattle.lists.specs.Text.{word_at, word_end};
 ghost use Rattle.lists.specs.Numbers.{digit_of, decimal, is_natural, is_number, number_of, number_at, IsNumberAt};
 
@@ -13,8 +14,7 @@ impl Cursor<'_> {
     /// Reads a number: an optional minus and 1 to 18 digits.
     pub fn integer(&mut self) -> Result<i64, Unread>
         ensures number { result ≡ number_at self.old.text.now self.old.at }
-        ensures place { self.new.at ≡ word_end self.old.text.now self.old.at }
-        ensures text { self.new.text.now ≡ self.old.text.now }
+        ensures moved { MovesTo self.old self.new (word_end self.old.text.now self.old.at) }
     {
         number(self.word()).ok_or(Unread::Malformed)
     }
@@ -25,8 +25,7 @@ impl Cursor<'_> {
         T::Error: Drop,
         ensures number { MatchResult result (λ x. IsNumberAt self.old.text.now self.old.at × T.try_from_gives (number_of (word_at self.old.text.now self.old.at)) (Ok x)) (λ e. e ≡ Malformed) }
         ensures refused { OnErr result (IsNumberAt self.old.text.now self.old.at → (why : T.Error) × T.try_from_gives (number_of (word_at self.old.text.now self.old.at)) (Err why)) }
-        ensures place { self.new.at ≡ word_end self.old.text.now self.old.at }
-        ensures text { self.new.text.now ≡ self.old.text.now }
+        ensures moved { MovesTo self.old self.new (word_end self.old.text.now self.old.at) }
     {
         T::try_from(self.integer()?).map_err(|_| Unread::Malformed)
     }

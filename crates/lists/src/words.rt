@@ -2,6 +2,7 @@
 ghost use Rattle.std.specs.Prelude.{◌≡◌, ◌<◌, OnSome, cond, take, drop, Ok, Err};
 ghost use Rattle.std.specs.List.{prefix_len};
 ghost use Rattle.lists.specs.declared.unread.Unread.TheVariants.{Malformed};
+ghost use Rattle.lists.specs.Places.{MovesTo};
 ghost use Rattle.lists.specs.Text.{in_class, run_end, word_end, word_at, line_ends, line_end, NextAt};
 
 use crate::class::Class;
@@ -12,8 +13,7 @@ impl<'a> Cursor<'a> {
     /// Takes the run of a class that begins here.
     fn run(&mut self, class: Class) -> &'a [u8]
         ensures run { result.now ≡ take (prefix_len (in_class class) (drop self.old.at self.old.text.now)) (drop self.old.at self.old.text.now) }
-        ensures place { self.new.at ≡ run_end class self.old.text.now self.old.at }
-        ensures text { self.new.text.now ≡ self.old.text.now }
+        ensures moved { MovesTo self.old self.new (run_end class self.old.text.now self.old.at) }
     {
         let rest = &self.text[self.at..];
         let count = class.run(rest);
@@ -25,8 +25,7 @@ impl<'a> Cursor<'a> {
     pub fn next_line(&mut self) -> Option<Line<'a>>
         ensures line { NextAt self.old.text.now self.old.at result }
         ensures further { OnSome result (self.old.at < self.new.at) }
-        ensures place { self.new.at ≡ line_end self.old.text.now self.old.at }
-        ensures text { self.new.text.now ≡ self.old.text.now }
+        ensures moved { MovesTo self.old self.new (line_end self.old.text.now self.old.at) }
     {
         self.run(Class::Space);
         let start = *self;
@@ -51,8 +50,7 @@ impl<'a> Cursor<'a> {
     /// The next word of the line, empty at its end.
     pub(crate) fn word(&mut self) -> &'a [u8]
         ensures word { result.now ≡ word_at self.old.text.now self.old.at }
-        ensures place { self.new.at ≡ word_end self.old.text.now self.old.at }
-        ensures text { self.new.text.now ≡ self.old.text.now }
+        ensures moved { MovesTo self.old self.new (word_end self.old.text.now self.old.at) }
     {
         self.run(Class::Blank);
         self.run(Class::Word)

@@ -12,7 +12,7 @@ use std::io;
 use std::io::Read;
 
 /// The lines so far (comments and cases: a list has no empty line), the cases, those that agree, and whether the list is well formed
-/// so far.
+/// so far. That is no `Result`, since the counts are reported either way.
 #[derive(Clone, Copy, Debug, PartialEq, Eq)]
 pub struct Tally {
     pub lines: u64,
@@ -122,7 +122,7 @@ fn write_report(rt: &impl Print, tally: &Tally) -> io::Result<()> {
 }
 
 /// Writes the counts, and the first line that is not well formed, where there is one. Answers whether there was none, and whether the
-/// report could be written.
+/// report could be written: the first holds also where the second is an error.
 pub fn report(rt: &impl Print, tally: &Tally) -> (bool, io::Result<()>)
     ensures { result.0 ≡ tally.now.good }
 {

@@ -1,3 +1,5 @@
+-- The judge's answer and where it stopped, and what the verdict makes of them.
+-- Assumes nothing.
 use Rattle.std.proofs.Common.{arith, rules}
 use Rattle.std.proofs.lemmas.Grind.{common_steps}
 use Rattle.tally.proofs.verdict.Goals as goal

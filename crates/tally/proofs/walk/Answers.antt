@@ -1,3 +1,5 @@
+-- A turn adds its line to the walk; the end, or a case that is not well formed, adds none.
+-- Assumes nothing.
 use Rattle.std.proofs.Common.{◌∙◌, None, Some, ◌∷◌, []}
 use Rattle.std.specs.Fn.{CalledAtMut}
 use Rattle.tally.proofs.Walks.{comment_first, case_first, ends_at_end, ends_malformed}
@@ -8,7 +10,7 @@ pub loop-line-preserved-in-Comment : goal.loop-line-preserved-in-Comment
 loop-line-preserved-in-Comment g c =
     let l = c.loop-line in
     let e = c.comment.ensures in
-    let next = c.next_line.ensures in
+    let next = c.next_line.ensures.moved in
     record {
       callable = l.invariant.callable;
       text = next.text ∙ l.invariant.text;
@@ -18,7 +20,7 @@ loop-line-preserved-in-Comment g c =
 pub loop-line-preserved : goal.loop-line-preserved
 loop-line-preserved g c =
     let l = c.loop-line in
-    let next = c.next_line.ensures in
+    let next = c.next_line.ensures.moved in
     record {
       callable = c.verdict.ensures.callable;
       text = next.text ∙ l.invariant.text;
