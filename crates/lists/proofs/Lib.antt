@@ -1,3 +1,2 @@
 -- Laws of the definitions of specs/, for the proofs of the functions.
-pub mod Runs
 pub mod Decimals

@@ -2,3 +2,4 @@
 pub mod Text
 pub mod Numbers
 pub mod ByteStrings
+pub mod Places

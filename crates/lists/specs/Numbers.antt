@@ -1,13 +1,14 @@
 -- Decimal numbers. The format is this repository's.
-use Rattle.std.specs.Prelude.{◌≡◌, Bool, ◌&&◌, cond, List, [], ◌∷◌, ℕ, ◌+◌, ◌*◌, ◌-◌, eqb, leb, ltb, ℤ, pos, negsuc, neg_ℤ, length, get_or, drop}
-use Rattle.std.specs.Int.Signed.{lt_z}
-use Rattle.lists.specs.declared.Class.TheVariants.{Digit}
-use Rattle.lists.specs.declared.Number.{Number}
-use Rattle.lists.specs.Text.{in_class, leading, word_at, word_end}
+use Rattle.std.specs.Prelude.{◌≡◌, Bool, true, ◌&&◌, cond, List, [], ◌∷◌, ℕ, ◌+◌, ◌*◌, ◌-◌, eqb, leb, ltb, ℤ, pos, neg_ℤ, length, get_or, drop, Result, Ok, Err}
+use Rattle.std.specs.List.{prefix_len}
+use Rattle.lists.specs.declared.class.Class.TheVariants.{Digit}
+use Rattle.lists.specs.declared.unread.Unread.{Unread}
+use Rattle.lists.specs.declared.unread.Unread.TheVariants.{Malformed}
+use Rattle.lists.specs.Text.{in_class, word_at}
 
 -- 1 to 18 digits
 abbrev pub is_natural : List ℕ → Bool
-is_natural w = ltb 0 (length w) && leb (length w) 18 && eqb (leading (in_class Digit) w) (length w)
+is_natural w = ltb 0 (length w) && leb (length w) 18 && eqb (prefix_len (in_class Digit) w) (length w)
 
 abbrev pub digit_of : ℕ → ℕ
 digit_of b = cond (in_class Digit b) (b - 48) 0
@@ -31,18 +32,9 @@ is_number w = cond (is_negative w) (is_natural (drop 1 w)) (is_natural w)
 abbrev pub number_of : List ℕ → ℤ
 number_of w = cond (is_negative w) (neg_ℤ (pos (natural_of (drop 1 w)))) (pos (natural_of w))
 
-pub record NumberAt (s : List ℕ) (at : ℕ) (r : Number) : Type 0 where
-  pub value : r.value ≡ number_of (word_at s at)
-  pub next : r.next ≡ word_end s at
-  pub good : r.good ≡ is_number (word_at s at)
+-- what is read as a number at a place
+abbrev pub number_at : List ℕ → ℕ → Result ℤ Unread
+number_at s at = cond (is_number (word_at s at)) (Ok (number_of (word_at s at))) (Err Malformed)
 
--- the nearest number that is not negative
-abbrev pub nat_of : ℤ → ℕ
-nat_of (pos n) = n
-nat_of (negsuc n) = 0
-
--- the nearest number from -2^31 to 2^31 - 1
-abbrev pub i32_of : ℤ → ℤ
-i32_of v =
-    cond (lt_z v (negsuc 2147483647)) (negsuc 2147483647)
-    (cond (lt_z (pos 2147483647) v) (pos 2147483647) v)
+abbrev pub IsNumberAt : List ℕ → ℕ → Type 0
+IsNumberAt s at = is_number (word_at s at) ≡ true

@@ -1,9 +1,10 @@
 -- Words, lines and comments of a text. The format is this repository's.
-use Rattle.std.specs.Prelude.{Bool, true, not, ◌&&◌, ◌||◌, cond, List, [], ◌∷◌, ℕ, suc, ◌+◌, ◌-◌, min, eqb, leb, ltb, length, get_or, take, drop}
-use Rattle.lists.specs.declared.Class.{Class}
-use Rattle.lists.specs.declared.Class.TheVariants.{Blank, Space, Word, Line, Digit, Hex}
-use Rattle.lists.specs.declared.Next.{Next}
-use Rattle.lists.specs.declared.Next.TheVariants.{Case, Comment, End}
+use Rattle.std.specs.Prelude.{◌≡◌, Bool, true, false, not, ◌&&◌, ◌||◌, cond, List, ℕ, ◌+◌, ◌-◌, ◌≤◌, ◌<◌, min, eqb, leb, ltb, length, get_or, take, drop, Option, Some, None}
+use Rattle.std.specs.List.{prefix_len}
+use Rattle.lists.specs.declared.class.Class.{Class}
+use Rattle.lists.specs.declared.class.Class.TheVariants.{Blank, Space, Word, Line, Digit, Hex}
+use Rattle.lists.specs.declared.cursor.Line.{Line as ALine}
+use Rattle.lists.specs.declared.cursor.Line.TheVariants.{Comment, Case}
 
 -- the bytes of each class, in ASCII: the blank; the blank and the line feed; what is neither; all but the line feed; 0 to 9; 0 to 9
 -- and a to f
@@ -15,14 +16,9 @@ in_class Line b = not (eqb b 10)
 in_class Digit b = leb 48 b && leb b 57
 in_class Hex b = (leb 48 b && leb b 57) || (leb 97 b && leb b 102)
 
--- how many elements at the front pass a test
-unfoldable pub leading : (ℕ → Bool) → List ℕ → ℕ
-leading p [] = 0
-leading p (x ∷ xs) = cond (p x) (suc (leading p xs)) 0
-
 -- the place after the run of a class that starts at a place
 abbrev pub run_end : Class → List ℕ → ℕ → ℕ
-run_end class s at = at + leading (in_class class) (drop at s)
+run_end class s at = at + prefix_len (in_class class) (drop at s)
 
 -- a place past the end is the end
 abbrev pub place : List ℕ → ℕ → ℕ
@@ -46,8 +42,15 @@ line_ends s at = cond (ltb at (length s)) (eqb (get_or s at 0) 10) true
 abbrev pub next_start : List ℕ → ℕ → ℕ
 next_start s at = run_end Space s (place s at)
 
-abbrev pub next_at : List ℕ → ℕ → Next
-next_at s at =
-    cond (ltb (next_start s at) (length s))
-    (cond (eqb (get_or s (next_start s at) 0) 35) (Comment (run_end Line s (next_start s at))) (Case (next_start s at)))
-    End
+-- the end of the line on which that stands
+abbrev pub line_end : List ℕ → ℕ → ℕ
+line_end s at = run_end Line s (next_start s at)
+
+abbrev pub NextAt : List ℕ → ℕ → Option ALine → Type 0
+NextAt s at None = length s ≤ next_start s at
+NextAt s at (Some Comment) = (next_start s at < length s) × (get_or s (next_start s at) 0 ≡ 35)
+NextAt s at (Some (Case line)) =
+    (next_start s at < length s)
+    × (eqb (get_or s (next_start s at) 0) 35 ≡ false)
+    × (line.text.now ≡ s)
+    × (line.at ≡ next_start s at)

@@ -1,2 +1,3 @@
 -- How a replay counts.
 pub mod Counts
+pub mod Walk

@@ -1,124 +1,132 @@
-//! The count that every replay keeps, and its report.
+//! Replays a list: judges each case, counts, and reports.
 #![tactic(auto)]
 
-ghost use Rattle.std.specs.Prelude.{◌≡◌, ◌<◌, IfOk, IfSome, vec_len};
+ghost use Rattle.std.specs.Prelude.{◌≡◌, ◌<◌, List, Option, Bool, IfOk, IfSome, vec_len};
+ghost use Rattle.std.specs.Fn.{CalledAtMut};
 ghost use Rattle.tally.specs.Counts.{none, after_comment, after_case, at_end};
+ghost use Rattle.tally.specs.Walk.{Verdict, Walks};
 
+use lists::{Cursor, Line, Unread};
+use std::alloc::AllocError;
 use std::io;
 use std::io::Read;
 
-/// The place in the list, the lines so far (comments and cases: a list has no empty line), the cases, those that agree, whether to go
-/// on, and whether the list is well formed so far.
-#[derive(Clone, Copy)]
+/// The lines so far (comments and cases: a list has no empty line), the cases, those that agree, and whether the list is well formed
+/// so far. That is no `Result`, since the counts are reported either way.
+#[derive(Clone, Copy, Debug, PartialEq, Eq)]
 pub struct Tally {
-    pub at: usize,
     pub lines: u64,
     pub cases: u64,
     pub agree: u64,
-    pub on: bool,
     pub good: bool,
 }
 
-pub fn start() -> Tally
-    ensures { result ≡ none }
+impl Tally {
+    pub fn new() -> Tally
+        ensures { result ≡ none }
+    {
+        Tally {
+            lines: 0,
+            cases: 0,
+            agree: 0,
+            good: true,
+        }
+    }
+
+    /// Counts a comment.
+    pub fn comment(&mut self)
+        ensures { self.new ≡ after_comment self.old }
+    {
+        self.lines = self.lines.wrapping_add(1);
+    }
+
+    /// Counts a case.
+    pub fn case(&mut self, agrees: bool)
+        ensures { self.new ≡ after_case self.old agrees }
+    {
+        self.lines = self.lines.wrapping_add(1);
+        self.cases = self.cases.wrapping_add(1);
+        if agrees {
+            self.agree = self.agree.wrapping_add(1);
+        }
+    }
+}
+
+/// The same as `case`. A case that does not agree is named, with its line, if it is among the first eight.
+fn judge(rt: &impl Print, tally: &mut Tally, agrees: bool) -> io::Result<()>
+    ensures { tally.new ≡ after_case tally.old agrees }
 {
-    Tally {
-        at: 0,
-        lines: 0,
-        cases: 0,
-        agree: 0,
-        on: true,
-        good: true,
+    let named = !agrees && tally.cases.wrapping_sub(tally.agree) < 8;
+    tally.case(agrees);
+    if named {
+        let case = tally.cases;
+        let line = tally.lines;
+        println!(rt; "case {case}, line {line}, disagrees")?;
     }
+    Ok(())
 }
 
-/// After a comment; `next` is the place behind it.
-pub fn passed(t: Tally, next: usize) -> Tally
-    ensures { result ≡ after_comment t next }
+/// Judges a case, which has to end its line.
+fn verdict<J: FnMut(&mut Cursor<'_>) -> Result<bool, Unread>>(
+    judge: &mut J,
+    case: Cursor<'_>,
+) -> Result<bool, Unread>
+    requires { J.IsAlwaysCallable judge.old }
+    ensures callable { J.IsAlwaysCallable judge.new }
+    ensures verdict { Verdict (CalledAtMut J.FnMut) judge.old case.entry result judge.new }
 {
-    Tally {
-        at: next,
-        lines: t.lines.wrapping_add(1),
-        cases: t.cases,
-        agree: t.agree,
-        on: true,
-        good: t.good,
-    }
+    let mut case = case;
+    let agrees = judge(&mut case)?;
+    case.line_ends()?;
+    Ok(agrees)
 }
 
-/// After a case; `next` is the place behind it.
-pub fn judged(t: Tally, agrees: bool, next: usize) -> Tally
-    ensures { result ≡ after_case t agrees next }
+/// Goes through a list, up to the first line that is not well formed.
+pub fn walk<J: FnMut(&mut Cursor<'_>) -> Result<bool, Unread>>(
+    rt: &impl Print,
+    list: &[u8],
+    mut judge: J,
+) -> io::Result<Tally>
+    requires { J.IsAlwaysCallable judge }
+    ensures { IfOk result (λ t. (lines : List (Option Bool)) × Walks (CalledAtMut J.FnMut) list.now lines judge 0 none t) }
 {
-    let lines = t.lines.wrapping_add(1);
-    let cases = t.cases.wrapping_add(1);
-    if agrees {
-        return Tally {
-            at: next,
-            lines: lines,
-            cases: cases,
-            agree: t.agree.wrapping_add(1),
-            on: true,
-            good: t.good,
-        };
+    let mut tally = Tally::new();
+    let mut lines = Cursor::new(list);
+    while let Some(line) = lines.next_line() {
+        match line {
+            Line::Comment => tally.comment(),
+            Line::Case(case) => {
+                match verdict(&mut judge, case) {
+                    Ok(agrees) => self::judge(rt, &mut tally, agrees)?,
+                    Err(Unread::Malformed) => {
+                        tally.good = false;
+                        break;
+                    }
+                    Err(Unread::OutOfMemory) => return Err(io::Error::from(AllocError)),
+                }
+            }
+        }
     }
-    Tally {
-        at: next,
-        lines: lines,
-        cases: cases,
-        agree: t.agree,
-        on: true,
-        good: t.good,
-    }
+    Ok(tally)
 }
 
-fn name(rt: &impl Print, case: u64, line: u64) -> io::Result<()> {
-    println!(rt; "case {case}, line {line}, disagrees")
-}
-
-/// The same as `judged`. A case that does not agree is named, with its line, if it is among the first eight.
-pub fn judge(rt: &impl Print, t: Tally, agrees: bool, next: usize) -> io::Result<Tally>
-    ensures { IfOk result (λ r. r ≡ after_case t agrees next) }
-{
-    let r = judged(t, agrees, next);
-    if !agrees & (t.cases.wrapping_sub(t.agree) < 8) {
-        name(rt, r.cases, r.lines)?;
-    }
-    Ok(r)
-}
-
-/// At the end of the list, or, where `good` is false, at a line that is not well formed.
-pub fn stopped(t: Tally, good: bool) -> Tally
-    ensures { result ≡ at_end t good }
-{
-    Tally {
-        at: t.at,
-        lines: t.lines,
-        cases: t.cases,
-        agree: t.agree,
-        on: false,
-        good: good,
-    }
-}
-
-fn write_report(rt: &impl Print, t: Tally) -> io::Result<()> {
-    let cases = t.cases;
-    let agree = t.agree;
+fn write_report(rt: &impl Print, tally: &Tally) -> io::Result<()> {
+    let cases = tally.cases;
+    let agree = tally.agree;
     println!(rt; "{cases} cases, {agree} agree")?;
-    if t.good {
+    if tally.good {
         return Ok(());
     }
-    let line = t.lines.wrapping_add(1);
+    let line = tally.lines.wrapping_add(1);
     println!(rt; "not well formed: line {line}")
 }
 
 /// Writes the counts, and the first line that is not well formed, where there is one. Answers whether there was none, and whether the
-/// report could be written.
-pub fn report(rt: &impl Print, t: Tally) -> (bool, io::Result<()>)
-    ensures { result.0 ≡ t.good }
+/// report could be written: the first holds also where the second is an error.
+pub fn report(rt: &impl Print, tally: &Tally) -> (bool, io::Result<()>)
+    ensures { result.0 ≡ tally.now.good }
 {
-    let written = write_report(rt, t);
-    (t.good, written)
+    (tally.good, write_report(rt, tally))
 }
 
 /// A list is shorter than this.
@@ -135,4 +143,21 @@ pub fn read<R: Alloc + Input + Print>(rt: &R) -> io::Result<Option<Vec<u8, R::A>
     }
     println!(rt; "the list is too long")?;
     Ok(None)
+}
+
+/// Replays the list from standard input: `judge` reads a case and says whether it agrees.
+pub fn replay<R: Alloc + Input + Print, J: FnMut(&mut Cursor<'_>) -> Result<bool, Unread>>(
+    rt: &R,
+    judge: J,
+) -> io::Result<()>
+    requires { J.IsAlwaysCallable judge }
+{
+    match read(rt)? {
+        Some(list) => {
+            let tally = walk(rt, list.as_slice(), judge)?;
+            let (_, written) = report(rt, &tally);
+            written
+        }
+        None => Ok(()),
+    }
 }

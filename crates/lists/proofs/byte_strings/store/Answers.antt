@@ -2,7 +2,7 @@
 -- Assumes nothing.
 use Rattle.std.proofs.Common.{arith}
 use Rattle.laws.proofs.Filled.{filled_none, filled_step, filled_all}
-use Rattle.lists.proofs.store.Goals as goal
+use Rattle.lists.proofs.byte_strings.store.Goals as goal
 
 pub loop-k-init : goal.loop-k-init
 loop-k-init c = filled_none _ _
