@@ -5,7 +5,7 @@ ghost use Rattle.pmv.specs.Update.{update_refusal, update_outcome, outcome_numbe
 ghost use Rattle.std.specs.Result.{result_ok, result_err};
 ghost use Rattle.combine_predictions.specs.Refusals.{value_unless};
 ghost use Rattle.pmv.specs.Refusals.{update_number};
-ghost use Rattle.pmv.specs.inner.Rows.{flag_number, table_row, decided_row, outcome_of, refusal_of, answer_of, carried_out};
+ghost use Rattle.pmv.specs.inner.Rows.{flag_number, table_row, decided_row, answer_of, carried_out};
 
 use crate::kinds::{PictureCodingType, PictureStructure, PredictionType};
 use crate::predictors::Pmv;
@@ -79,44 +79,44 @@ pub struct SpatialTemporalReset {
     pub pmv: Pmv,
 }
 
-// A row of the tables is a byte: eight times its number, which is the outcome's, or 16 and the refusal's; and below that what it does to the
-// predictors. An enum would be matched, and a match is a jump that nothing predicts.
+// A row of the tables is a byte: its number, which is the outcome's, or 1 and the refusal's, and above that what it does to the predictors. An
+// enum would be matched, and a match is a jump that nothing predicts.
 
 /// First to second, forward.
-const COPIES_FORWARD: u8 = 1;
+const COPIES_FORWARD: u8 = 16;
 /// First to second, backward.
-const COPIES_BACKWARD: u8 = 2;
+const COPIES_BACKWARD: u8 = 32;
 /// All zero.
-const RESETS: u8 = 4;
+const RESETS: u8 = 64;
 
 /// Intra with concealment vectors.
 const INTRA_CONCEALMENT: u8 = COPIES_FORWARD;
 /// Intra without.
-const INTRA_RESET: u8 = 8 + RESETS;
+const INTRA_RESET: u8 = 1 + RESETS;
 /// Motion in both directions.
-const COPY_BOTH: u8 = 2 * 8 + COPIES_FORWARD + COPIES_BACKWARD;
+const COPY_BOTH: u8 = 2 + COPIES_FORWARD + COPIES_BACKWARD;
 /// Forward alone.
-const COPY_FORWARD: u8 = 3 * 8 + COPIES_FORWARD;
+const COPY_FORWARD: u8 = 3 + COPIES_FORWARD;
 /// Backward alone.
-const COPY_BACKWARD: u8 = 4 * 8 + COPIES_BACKWARD;
+const COPY_BACKWARD: u8 = 4 + COPIES_BACKWARD;
 /// No motion flag.
-const ZERO_MOTION: u8 = 5 * 8 + RESETS;
+const ZERO_MOTION: u8 = 5 + RESETS;
 /// "(none)".
-const UNCHANGED: u8 = 6 * 8;
+const UNCHANGED: u8 = 6;
 /// Dual prime.
-const DUAL_PRIME: u8 = 7 * 8 + COPIES_FORWARD;
+const DUAL_PRIME: u8 = 7 + COPIES_FORWARD;
 /// No row: refusal 7.
-const REFUSED_7: u8 = (16 + UpdateRefusal::IntraWithMotion as u8) * 8;
+const REFUSED_7: u8 = 1 + UpdateRefusal::IntraWithMotion as u8;
 /// No row: refusal 8.
-const REFUSED_8: u8 = (16 + UpdateRefusal::TypeMissing as u8) * 8;
+const REFUSED_8: u8 = 1 + UpdateRefusal::TypeMissing as u8;
 /// No row: refusal 9.
-const REFUSED_9: u8 = (16 + UpdateRefusal::FrameBasedInField as u8) * 8;
+const REFUSED_9: u8 = 1 + UpdateRefusal::FrameBasedInField as u8;
 /// No row: refusal 10.
-const REFUSED_10: u8 = (16 + UpdateRefusal::SixteenByEightInFrame as u8) * 8;
+const REFUSED_10: u8 = 1 + UpdateRefusal::SixteenByEightInFrame as u8;
 /// No row: refusal 11.
-const REFUSED_11: u8 = (16 + UpdateRefusal::DualPrimeFlags as u8) * 8;
+const REFUSED_11: u8 = 1 + UpdateRefusal::DualPrimeFlags as u8;
 /// No row: refusal 12.
-const REFUSED_12: u8 = (16 + UpdateRefusal::NoneRowFlags as u8) * 8;
+const REFUSED_12: u8 = 1 + UpdateRefusal::NoneRowFlags as u8;
 
 /// Tables 7-10 and 7-11: by picture (field, frame), then type (field-based, frame-based, 16 × 8, dual prime), then forward, backward and
 /// intra, which counts fastest: eight lines for each picture and type, the first of them without a flag. Concealment and an absent type are
@@ -188,6 +188,26 @@ const OUTCOMES: [u8; 64] = [
     REFUSED_7,
 ];
 
+/// The answers by the numbers of rows, the outcomes and then the refusals. The last two are of no row.
+static ANSWERS: [Result<PmvUpdateOutcome, UpdateRefusal>; 16] = [
+    Ok(PmvUpdateOutcome::IntraConcealmentCopyForwardFirst),
+    Ok(PmvUpdateOutcome::IntraResetAll),
+    Ok(PmvUpdateOutcome::NonIntraCopyBoth),
+    Ok(PmvUpdateOutcome::NonIntraCopyForward),
+    Ok(PmvUpdateOutcome::NonIntraCopyBackward),
+    Ok(PmvUpdateOutcome::NonIntraZeroMotionReset),
+    Ok(PmvUpdateOutcome::NoUpdate),
+    Ok(PmvUpdateOutcome::DualPrimeCopyForward),
+    Err(UpdateRefusal::IntraWithMotion),
+    Err(UpdateRefusal::TypeMissing),
+    Err(UpdateRefusal::FrameBasedInField),
+    Err(UpdateRefusal::SixteenByEightInFrame),
+    Err(UpdateRefusal::DualPrimeFlags),
+    Err(UpdateRefusal::NoneRowFlags),
+    Err(UpdateRefusal::NoneRowFlags),
+    Err(UpdateRefusal::NoneRowFlags),
+];
+
 impl From<PmvUpdateOutcome> for u8 {
     ghost from_gives = { λ outcome number. number ≡ outcome_number outcome };
 
@@ -253,69 +273,12 @@ fn decide(ctx: PmvUpdateContext) -> u8
     )
 }
 
-/// The outcome with this number, which is at most 7.
-#[tactic(auto, unfolding(crate::specs::inner::Rows::outcome_of))]
-fn outcome_of(number: u8) -> PmvUpdateOutcome
-    ensures { result ≡ outcome_of number }
-{
-    if number == 0 {
-        return PmvUpdateOutcome::IntraConcealmentCopyForwardFirst;
-    }
-    if number == 1 {
-        return PmvUpdateOutcome::IntraResetAll;
-    }
-    if number == 2 {
-        return PmvUpdateOutcome::NonIntraCopyBoth;
-    }
-    if number == 3 {
-        return PmvUpdateOutcome::NonIntraCopyForward;
-    }
-    if number == 4 {
-        return PmvUpdateOutcome::NonIntraCopyBackward;
-    }
-    if number == 5 {
-        return PmvUpdateOutcome::NonIntraZeroMotionReset;
-    }
-    if number == 6 {
-        return PmvUpdateOutcome::NoUpdate;
-    }
-    PmvUpdateOutcome::DualPrimeCopyForward
-}
-
-/// The refusal with this number, which is 7 to 12.
-#[tactic(auto, unfolding(crate::specs::inner::Rows::refusal_of))]
-fn refusal_of(number: u8) -> UpdateRefusal
-    ensures { result ≡ refusal_of number }
-{
-    if number == 7 {
-        return UpdateRefusal::IntraWithMotion;
-    }
-    if number == 8 {
-        return UpdateRefusal::TypeMissing;
-    }
-    if number == 9 {
-        return UpdateRefusal::FrameBasedInField;
-    }
-    if number == 10 {
-        return UpdateRefusal::SixteenByEightInFrame;
-    }
-    if number == 11 {
-        return UpdateRefusal::DualPrimeFlags;
-    }
-    UpdateRefusal::NoneRowFlags
-}
-
-/// The answer that a row stands for. Both parts are made before the test, so that it chooses and does not jump.
-#[tactic(auto, unfolding(crate::specs::inner::Rows::answer_of))]
+/// The answer that a row stands for: looked up, so that no jump depends on it.
+#[tactic(auto, unfolding(crate::specs::inner::Rows::answers))]
 fn answer_of(row: u8) -> Result<PmvUpdateOutcome, UpdateRefusal>
     ensures { result ≡ answer_of row }
 {
-    let outcome = outcome_of(row / 8 % 8);
-    let refusal = refusal_of(row / 8 % 16);
-    if row < 128 {
-        return Ok(outcome);
-    }
-    Err(refusal)
+    ANSWERS[(row % 16) as usize]
 }
 
 fn chosen(first: bool, a: i32, b: i32) -> i32

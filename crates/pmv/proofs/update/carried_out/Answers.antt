@@ -19,7 +19,7 @@ returns c =
     let e6 = back w32 _ c.chosen-9.type_inv ∙ rw (f2, back w32 (get_or l 6 (pos 0)) (search rules)) at c.chosen-9.ensures in
     let e7 = back w32 _ c.chosen-11.type_inv ∙ rw (f3, back w32 (get_or l 7 (pos 0)) (search rules)) at c.chosen-11.ensures in
     ap (λ (x : List ℤ). record { values = x })
-    (eight_written (has row 4) (has row 1) (has row 2) l
+    (eight_written (has row 64) (has row 16) (has row 32) l
     (back w32 _ c.chosen.type_inv ∙ rw f0 at c.chosen.ensures)
     (back w32 _ c.chosen-2.type_inv ∙ rw f1 at c.chosen-2.ensures)
     (back w32 _ c.chosen-3.type_inv ∙ rw f2 at c.chosen-3.ensures)
