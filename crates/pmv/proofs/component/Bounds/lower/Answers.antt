@@ -9,15 +9,15 @@ use mir.Facts.{to_z-of_z}
 use Rattle.laws.proofs.Bits.{widened}
 use Rattle.laws.proofs.Bounded.{Within, within_sub, within_fits, within_more}
 use Rattle.pmv.proofs.Ranges.{range_fits, past_high}
-use Rattle.pmv.proofs.component.lower.Goals as goal
+use Rattle.pmv.proofs.component.Bounds.lower.Goals as goal
 
-pub returns-then-b-above_low : goal.returns-then-b-above_low
-returns-then-b-above_low c =
-    let d : Within 4294983680 (c.args.v -ℤ c.args.b.range) = within_sub c.requires.1 c.requires.0.range in
-    let f : SFits w64 (c.args.v -ℤ c.args.b.range) = within_fits d (omega arith) in
+pub returns-then-self-above_low : goal.returns-then-self-above_low
+returns-then-self-above_low c =
+    let d : Within 4294983680 (c.args.v -ℤ c.args.self.ends.range) = within_sub c.requires c.args.self.small.range in
+    let f : SFits w64 (c.args.v -ℤ c.args.self.ends.range) = within_fits d (omega arith) in
     grind (arith, common_steps, to_z-of_z, widened, range_fits, past_high)
 
 pub returns : goal.returns
 returns c =
-    let d : Within 4294983680 c.args.v = within_more c.requires.1 (omega arith) in
+    let d : Within 4294983680 c.args.v = within_more c.requires (omega arith) in
     grind (arith, common_steps, to_z-of_z, widened, range_fits, past_high)
