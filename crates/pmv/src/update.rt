@@ -5,10 +5,10 @@ ghost use Rattle.pmv.specs.Update.{update_refusal, update_outcome, outcome_numbe
 ghost use Rattle.std.specs.Result.{result_ok, result_err};
 ghost use Rattle.combine_predictions.specs.Refusals.{value_unless};
 ghost use Rattle.pmv.specs.Refusals.{update_number};
-ghost use Rattle.pmv.specs.inner.Rows.{flag_number, table_row, decided_row, answer_of, carried_out};
+ghost use Rattle.pmv.specs.inner.Rows.{table_row, decided_row, answer_of, carried_out};
 
 use crate::kinds::{PictureCodingType, PictureStructure, PredictionType};
-use crate::predictors::Pmv;
+use crate::predictors::{Pmv, chosen};
 
 /// Why an update is refused. Each reason has its number of docs/SCOPE.md.
 #[derive(Clone, Copy, Debug, PartialEq, Eq)]
@@ -90,21 +90,22 @@ const COPIES_BACKWARD: u8 = 32;
 const RESETS: u8 = 64;
 
 /// Intra with concealment vectors.
-const INTRA_CONCEALMENT: u8 = COPIES_FORWARD;
+const INTRA_CONCEALMENT: u8 = PmvUpdateOutcome::IntraConcealmentCopyForwardFirst as u8
+    + COPIES_FORWARD;
 /// Intra without.
-const INTRA_RESET: u8 = 1 + RESETS;
+const INTRA_RESET: u8 = PmvUpdateOutcome::IntraResetAll as u8 + RESETS;
 /// Motion in both directions.
-const COPY_BOTH: u8 = 2 + COPIES_FORWARD + COPIES_BACKWARD;
+const COPY_BOTH: u8 = PmvUpdateOutcome::NonIntraCopyBoth as u8 + COPIES_FORWARD + COPIES_BACKWARD;
 /// Forward alone.
-const COPY_FORWARD: u8 = 3 + COPIES_FORWARD;
+const COPY_FORWARD: u8 = PmvUpdateOutcome::NonIntraCopyForward as u8 + COPIES_FORWARD;
 /// Backward alone.
-const COPY_BACKWARD: u8 = 4 + COPIES_BACKWARD;
+const COPY_BACKWARD: u8 = PmvUpdateOutcome::NonIntraCopyBackward as u8 + COPIES_BACKWARD;
 /// No motion flag.
-const ZERO_MOTION: u8 = 5 + RESETS;
+const ZERO_MOTION: u8 = PmvUpdateOutcome::NonIntraZeroMotionReset as u8 + RESETS;
 /// "(none)".
-const UNCHANGED: u8 = 6;
+const UNCHANGED: u8 = PmvUpdateOutcome::NoUpdate as u8;
 /// Dual prime.
-const DUAL_PRIME: u8 = 7 + COPIES_FORWARD;
+const DUAL_PRIME: u8 = PmvUpdateOutcome::DualPrimeCopyForward as u8 + COPIES_FORWARD;
 /// No row: refusal 7.
 const REFUSED_7: u8 = 1 + UpdateRefusal::IntraWithMotion as u8;
 /// No row: refusal 8.
@@ -217,34 +218,14 @@ impl From<PmvUpdateOutcome> for u8 {
     }
 }
 
-/// 1 or 0, to be counted with.
-fn bit(x: bool) -> usize
-    ensures { (result ≡ flag_number x) × (result ≤ 1) }
-{
-    if x {
-        return 1;
-    }
-    0
-}
-
 /// The place of the table for these keys.
 #[tactic(auto, unfolding(crate::specs::inner::Rows::outcomes))]
 fn row_at(frame: bool, t: PredictionType, forward: bool, backward: bool, intra: bool) -> u8
     ensures { result ≡ table_row frame t forward backward intra }
 {
-    let kind = bit(frame) * 32 + t as usize * 8;
-    let flags = bit(forward) * 4 + bit(backward) * 2 + bit(intra);
+    let kind = frame as usize * 32 + t as usize * 8;
+    let flags = forward as usize * 4 + backward as usize * 2 + intra as usize;
     OUTCOMES[kind + flags]
-}
-
-/// `row`, and `other` where it is decided beside the table.
-fn row_unless(decided: bool, other: u8, row: u8) -> u8
-    ensures { result ≡ cond decided other row }
-{
-    if decided {
-        return other;
-    }
-    row
 }
 
 /// Which row of the tables the context asks for.
@@ -265,8 +246,8 @@ fn decide(ctx: PmvUpdateContext) -> u8
         backward,
         intra,
     );
-    let typed = row_unless(prediction_type.is_none() & !intra, REFUSED_8, row);
-    row_unless(
+    let typed = chosen(prediction_type.is_none() & !intra, REFUSED_8, row);
+    chosen(
         (ctx.concealment_motion_vectors & intra) & !(forward | backward),
         INTRA_CONCEALMENT,
         typed,
@@ -279,15 +260,6 @@ fn answer_of(row: u8) -> Result<PmvUpdateOutcome, UpdateRefusal>
     ensures { result ≡ answer_of row }
 {
     ANSWERS[(row % 16) as usize]
-}
-
-fn chosen(first: bool, a: i32, b: i32) -> i32
-    ensures { result ≡ cond first a b }
-{
-    if first {
-        return a;
-    }
-    b
 }
 
 /// What a row does to the predictors. All eight are written out, as in `Pmv::with`.

@@ -2,7 +2,7 @@
 -- proofs/Rows.antt has that all this agrees with the rule. For private contracts alone.
 -- The scope (docs/SCOPE.md): one constant table of 64 outcomes, here by picture, type, forward, backward and intra; concealment and an
 -- absent type beside it.
-use Rattle.std.specs.Prelude.{Bool, true, false, not, ◌&&◌, ◌||◌, cond, List, [], ◌∷◌, ℕ, ◌+◌, ◌*◌, ◌/◌, ◌%◌, eqb, ltb, ℤ, pos, get_or, Option, is_none, unwrap_or, Result, Ok, Err}
+use Rattle.std.specs.Prelude.{Bool, true, false, not, ◌&&◌, ◌||◌, cond, List, [], ◌∷◌, ℕ, ◌+◌, ◌*◌, ◌%◌, eqb, ℤ, pos, get_or, Option, is_none, unwrap_or, Result, Ok, Err}
 use Rattle.std.specs.Int.Bits.{bit_and}
 use Rattle.pmv.specs.Kinds.{type_number, is_frame_picture}
 use Rattle.pmv.specs.declared.kinds.PredictionType.{PredictionType}
