@@ -1,30 +1,29 @@
 -- Inputs and answers as numbers. For the benchmark alone: nothing here is from the standard or from docs/SCOPE.md.
-use Rattle.std.specs.Prelude.{Bool, not, cond, List, [], ◌∷◌, ℕ, ◌+◌, eqb, ltb, ℤ}
+use Rattle.std.specs.Prelude.{Bool, not, cond, List, [], ◌∷◌, ℕ, ◌+◌, eqb, ltb, ℤ, Option, Some, None, Result, Ok, Err}
+use Rattle.pmv.specs.Kinds.{type_from}
+use Rattle.pmv.specs.Refusals.{vector_number, update_number}
 use Rattle.pmv.specs.Update.{outcome_number}
 use Rattle.pmv.specs.declared.kinds.PictureStructure.{PictureStructure}
-use Rattle.pmv.specs.declared.kinds.PredictionType.TheVariants.{FieldBased, FrameBased, SixteenByEight, DualPrime}
-use Rattle.pmv.specs.declared.kinds.MotionType.{MotionType}
+use Rattle.pmv.specs.declared.kinds.PredictionType.{PredictionType}
 use Rattle.pmv.specs.declared.kinds.MvFormat.{MvFormat}
 use Rattle.pmv.specs.declared.kinds.VectorIndex.{VectorIndex}
 use Rattle.pmv.specs.declared.kinds.VectorIndex.TheVariants.{First, Second}
 use Rattle.pmv.specs.declared.kinds.Direction.{Direction}
 use Rattle.pmv.specs.declared.kinds.Direction.TheVariants.{Forward, Backward}
-use Rattle.pmv.specs.declared.component.MotionResidual.{MotionResidual}
+use Rattle.pmv.specs.declared.component.VectorRefusal.{VectorRefusal}
 use Rattle.pmv.specs.declared.predictors.Pmv.{Pmv}
 use Rattle.pmv.specs.declared.update.PmvUpdateContext.{PmvUpdateContext}
-use Rattle.pmv.specs.declared.update.Updated.{Updated}
+use Rattle.pmv.specs.declared.update.PmvUpdateOutcome.{PmvUpdateOutcome}
+use Rattle.pmv.specs.declared.update.UpdateRefusal.{UpdateRefusal}
 use Rattle.pmv.specs.declared.vector.MotionVector.{MotionVector}
-use Rattle.pmv.specs.declared.vector.ReconstructedVector.{ReconstructedVector}
-use Rattle.pmv.specs.declared.vector.ReconstructedVector.TheVariants as Vec
+use Rattle.pmv.specs.declared.vector.VectorComponents.{VectorComponents}
 
 abbrev pub structure_of : ℕ → PictureStructure
 structure_of n = cond (eqb n 0) PictureStructure.TopField (cond (eqb n 1) PictureStructure.BottomField PictureStructure.Frame)
 
-abbrev pub type_of : ℕ → MotionType
-type_of n =
-    cond (eqb n 0) (MotionType.Present FieldBased)
-    (cond (eqb n 1) (MotionType.Present FrameBased)
-    (cond (eqb n 2) (MotionType.Present SixteenByEight) (cond (eqb n 3) (MotionType.Present DualPrime) MotionType.Absent)))
+-- a type's number, and else none
+abbrev pub type_of : ℕ → Option PredictionType
+type_of n = type_from n
 
 abbrev pub format_of : ℕ → MvFormat
 format_of n = cond (eqb n 0) MvFormat.Field MvFormat.Frame
@@ -36,8 +35,8 @@ abbrev pub direction_of : ℕ → Direction
 direction_of n = cond (eqb n 0) Forward Backward
 
 -- a byte, and else none
-abbrev pub residual_of : ℕ → MotionResidual
-residual_of n = cond (ltb n 256) (MotionResidual.Present n) MotionResidual.Absent
+abbrev pub residual_of : ℕ → Option ℕ
+residual_of n = cond (ltb n 256) (Some n) None
 
 abbrev pub is_set : ℕ → Bool
 is_set n = not (eqb n 0)
@@ -66,15 +65,15 @@ abbrev pub pmv_of : List ℤ → Pmv
 pmv_of l = record { values = l }
 
 -- the outcome's number, or 16 and the refusal's
-abbrev pub update_code : Updated → ℕ
-update_code (Updated.Outcome o) = outcome_number o
-update_code (Updated.Refused n) = 16 + n
+abbrev pub update_code : Result PmvUpdateOutcome UpdateRefusal → ℕ
+update_code (Ok o) = outcome_number o
+update_code (Err r) = 16 + update_number r
 
-abbrev pub vector_code : ReconstructedVector → ℕ
-vector_code (Vec.Components c) = 0
-vector_code (Vec.Refused n) = n
+abbrev pub vector_code : Result VectorComponents VectorRefusal → ℕ
+vector_code (Ok c) = 0
+vector_code (Err r) = vector_number r
 
 -- both components of an accepted vector, and else what was there
-abbrev pub components_or : List ℤ → ReconstructedVector → List ℤ
-components_or l (Vec.Components c) = c.horizontal.vector_prime ∷ c.vertical.vector_prime ∷ []
-components_or l (Vec.Refused n) = l
+abbrev pub components_or : List ℤ → Result VectorComponents VectorRefusal → List ℤ
+components_or l (Ok c) = c.horizontal.vector_prime ∷ c.vertical.vector_prime ∷ []
+components_or l (Err r) = l

@@ -6,13 +6,11 @@ ghost use Rattle.pmv.specs.Update.{updated};
 ghost use Rattle.pmv.specs.Vector.{ported, reconstructed};
 ghost use Rattle.bench_pmv.specs.Inputs.{structure_of, type_of, format_of, index_of, direction_of, residual_of, context_of, vector_of, pmv_of, update_code, vector_code, components_or};
 
-use pmv::component::MotionResidual;
-use pmv::kinds::{
-    Component, Direction, MotionType, MvFormat, PictureStructure, PredictionType, VectorIndex,
-};
+use pmv::component::VectorRefusal;
+use pmv::kinds::{Component, Direction, MvFormat, PictureStructure, PredictionType, VectorIndex};
 use pmv::predictors::{Pmv, PredictorPair};
-use pmv::update::{PmvUpdateContext, Updated};
-use pmv::vector::{MotionVector, ReconstructedVector};
+use pmv::update::{PmvUpdateContext, PmvUpdateOutcome, UpdateRefusal};
+use pmv::vector::{MotionVector, VectorComponents};
 
 fn structure_of(n: u32) -> PictureStructure
     ensures { result ≡ structure_of n }
@@ -26,22 +24,10 @@ fn structure_of(n: u32) -> PictureStructure
     PictureStructure::Frame
 }
 
-fn type_of(n: u32) -> MotionType
+fn type_of(n: u32) -> Option<PredictionType>
     ensures { result ≡ type_of n }
 {
-    if n == 0 {
-        return MotionType::Present(PredictionType::FieldBased);
-    }
-    if n == 1 {
-        return MotionType::Present(PredictionType::FrameBased);
-    }
-    if n == 2 {
-        return MotionType::Present(PredictionType::SixteenByEight);
-    }
-    if n == 3 {
-        return MotionType::Present(PredictionType::DualPrime);
-    }
-    MotionType::Absent
+    PredictionType::try_from(n).ok()
 }
 
 fn format_of(n: u32) -> MvFormat
@@ -71,45 +57,42 @@ fn direction_of(n: u32) -> Direction
     Direction::Backward
 }
 
-fn residual_of(n: u32) -> MotionResidual
+fn residual_of(n: u32) -> Option<u8>
     ensures { result ≡ residual_of n }
 {
-    if n < 256 {
-        return MotionResidual::Present(n as u8);
-    }
-    MotionResidual::Absent
+    u8::try_from(n).ok()
 }
 
 /// The outcome's number, or 16 and the refusal's.
-fn update_code(answer: Updated) -> u32
+fn update_code(answer: Result<PmvUpdateOutcome, UpdateRefusal>) -> u32
     ensures { result ≡ update_code answer }
 {
     match answer {
-        Updated::Outcome(outcome) => outcome.number() as u32,
-        Updated::Refused(number) => 16 + number as u32,
+        Ok(outcome) => outcome as u32,
+        Err(refusal) => 16 + u32::from(refusal),
     }
 }
 
-fn vector_code(answer: ReconstructedVector) -> u32
+fn vector_code(answer: Result<VectorComponents, VectorRefusal>) -> u32
     ensures { result ≡ vector_code answer }
 {
     match answer {
-        ReconstructedVector::Components(_) => 0,
-        ReconstructedVector::Refused(number) => number as u32,
+        Ok(_) => 0,
+        Err(refusal) => refusal.into(),
     }
 }
 
 /// Both components, where there are any.
-fn write_vector(answer: ReconstructedVector, vector: &mut [i32; 2])
+fn write_vector(answer: Result<VectorComponents, VectorRefusal>, vector: &mut [i32; 2])
     ensures { vector.new ≡ components_or vector.old answer }
 {
     match answer {
-        ReconstructedVector::Components(c) => {
+        Ok(c) => {
             let h = c.horizontal;
             let v = c.vertical;
             *vector = [h.vector_prime, v.vector_prime];
         }
-        ReconstructedVector::Refused(_) => {}
+        Err(_) => {}
     }
 }
 

@@ -10,8 +10,7 @@ use Rattle.laws.proofs.Signed.{zp, zn, add_z, sub_z, neg_p, neg_n, mul_p, mul_n,
 use Rattle.laws.proofs.Tests.{both}
 use Rattle.combine_predictions.specs.Refusals.{cause, or_else}
 use Rattle.forming_predictions.proofs.Refusals.{none_first, none_second, no_cause}
-use Rattle.std.specs.Prelude.{Option, Some, None}
-use Rattle.pmv.specs.declared.component.VectorRefusal.{VectorRefusal}
+use Rattle.std.specs.Prelude.{Some, None}
 use Rattle.pmv.specs.declared.component.VectorRefusal.TheVariants.{DeltaOutside, VectorOutside}
 use Rattle.pmv.specs.Component.{range_of, in_range, prediction, lowered, wrapped, vector_of, new_predictor, from_delta, from_delta_refusal}
 

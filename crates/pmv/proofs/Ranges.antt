@@ -96,5 +96,3 @@ in_range_within {b} v s e =
     let l = s.low.below in
     let h = s.high.above in
     record { above = omega arith; below = omega arith }
-
--- ---- when each number is given

@@ -3,17 +3,15 @@
 use mathlib.Core.Path.{◌≡◌, refl, sym, ap, ◌∙◌}
 use mathlib.Core.Bool.{Bool, true, false, cond}
 use mathlib.Core.List.{List, [], ◌∷◌}
-use Prim.Native.Nat.{ℕ, zero, suc, ◌+◌, ◌-◌}
-use native.Mathlib.Omega.{arith}
-use borrow.Author.Tests.{lt-ltb}
-use lib.Dec.{T, ltb, eqb, eqb→eq}
+use Prim.Native.Nat.{ℕ, ◌+◌}
+use lib.Dec.{T, eqb, eqb→eq}
 use lib.IntN.{ℤ, pos}
 use lib.ListN.{length, get_or}
 use Rattle.std.specs.Prelude.{Option, Some, None, Result, Ok, Err}
 use Rattle.combine_predictions.specs.Refusals.{answered, unless_refused}
 use Rattle.pmv.specs.Refusals.{update_number}
 use Rattle.pmv.specs.Update.{decided_refusal, decided_outcome, outcome_number, after}
-use Rattle.pmv.specs.inner.Rows.{outcomes, row_for, outcome_of, refusal_of, answer_of, has, written, carried_out}
+use Rattle.pmv.specs.inner.Rows.{outcomes, row_for, answers, answer_at, answer_of, has, written, carried_out}
 use Rattle.pmv.specs.declared.kinds.PredictionType.{PredictionType}
 use Rattle.pmv.specs.declared.kinds.PredictionType.TheVariants.{FieldBased, FrameBased, SixteenByEight, DualPrime}
 use Rattle.pmv.specs.declared.predictors.Pmv.{Pmv}
@@ -75,17 +73,10 @@ Answer = Result PmvUpdateOutcome UpdateRefusal
 
 abbrev code_of : Answer → ℕ
 code_of (Ok o) = outcome_number o
-code_of (Err r) = 16 + update_number r
+code_of (Err r) = 1 + update_number r
 
-coded_answer : ℕ → Answer
-coded_answer k = pick (ltb 15 k) (Err (refusal_of (k - 16))) (Ok (outcome_of k))
-  where
-    pick : Bool → Answer → Answer → Answer
-    pick true a b = a
-    pick false a b = b
-
-code_back : (u : Answer) → coded_answer (code_of u) ≡ u
-unfolding coded_answer outcome_of refusal_of
+code_back : (u : Answer) → answer_at (code_of u) ≡ u
+unfolding answers
 code_back (Ok O.IntraConcealmentCopyForwardFirst) = refl
 code_back (Ok O.IntraResetAll) = refl
 code_back (Ok O.NonIntraCopyBoth) = refl
@@ -102,7 +93,7 @@ code_back (Err R.DualPrimeFlags) = refl
 code_back (Err R.NoneRowFlags) = refl
 
 same_code : (a b : Answer) → code_of a ≡ code_of b → a ≡ b
-same_code a b e = sym (code_back a) ∙ ap coded_answer e ∙ code_back b
+same_code a b e = sym (code_back a) ∙ ap answer_at e ∙ code_back b
 
 -- ---- what an answer does to the predictors
 abbrev zeroes : Answer → Bool
@@ -196,13 +187,13 @@ ruled frame m f b i c = answered (decided_refusal frame m f b i) (decided_outcom
 abbrev stands : ℕ → Answer → Bool
 stands row u =
     both (eqb (code_of (answer_of row)) (code_of u))
-    (both (same (has row 4) (zeroes u)) (both (same (has row 1) (copies_forward u)) (same (has row 2) (copies_backward u))))
+    (both (same (has row 64) (zeroes u)) (both (same (has row 16) (copies_forward u)) (same (has row 32) (copies_backward u))))
 
 right_row : Bool → Option PredictionType → Bool → Bool → Bool → Bool → Bool
 right_row frame m f b i c = stands (row_for frame m f b i c) (ruled frame m f b i c)
 
 all_right : T (flags (λ p. motions (λ m. flags (λ f. flags (λ b. flags (λ i. flags (λ c. right_row p m f b i c)))))))
-unfolding outcomes row_for outcome_of refusal_of answer_of motions same right_row decided_refusal decided_outcome
+unfolding outcomes row_for answers motions same right_row decided_refusal decided_outcome
 all_right = tt
 
 agrees : (p : Bool) (m : Option PredictionType) (f b i c : Bool) → T (stands (row_for p m f b i c) (ruled p m f b i c))
@@ -227,16 +218,16 @@ module _ (p : Bool) (m : Option PredictionType) (f b i c : Bool) where
   number = eqb (code_of (answer_of row)) (code_of u)
 
   abbrev zero_bit : Bool
-  zero_bit = same (has row 4) (zeroes u)
+  zero_bit = same (has row 64) (zeroes u)
 
   abbrev forward_bit : Bool
-  forward_bit = same (has row 1) (copies_forward u)
+  forward_bit = same (has row 16) (copies_forward u)
 
   abbrev backward_bit : Bool
-  backward_bit = same (has row 2) (copies_backward u)
+  backward_bit = same (has row 32) (copies_backward u)
 
-  pub answers : answer_of row ≡ u
-  answers =
+  pub answer_right : answer_of row ≡ u
+  answer_right =
       same_code (answer_of row) u
       (eqb→eq (code_of (answer_of row)) (code_of u) (left number (both zero_bit (both forward_bit backward_bit)) (agrees p m f b i c)))
 
@@ -245,9 +236,9 @@ module _ (p : Bool) (m : Option PredictionType) (f b i c : Bool) where
   does pmv n =
       let bits = right number (both zero_bit (both forward_bit backward_bit)) (agrees p m f b i c) in
       let copies = right zero_bit (both forward_bit backward_bit) bits in
-      let z = same_eq (has row 4) (zeroes u) (left zero_bit (both forward_bit backward_bit) bits) in
-      let x = same_eq (has row 1) (copies_forward u) (left forward_bit backward_bit copies) in
-      let y = same_eq (has row 2) (copies_backward u) (right forward_bit backward_bit copies) in
+      let z = same_eq (has row 64) (zeroes u) (left zero_bit (both forward_bit backward_bit) bits) in
+      let x = same_eq (has row 16) (copies_forward u) (left forward_bit backward_bit copies) in
+      let y = same_eq (has row 32) (copies_backward u) (right forward_bit backward_bit copies) in
       rw (z, x, y)
       (ap (λ (l : List ℤ). record { values = l })
       (written_after (decided_refusal p m f b i) (decided_outcome p m f b i c) pmv.values n))

@@ -1,6 +1,6 @@
 -- ISO/IEC 13818-2, 7.6.3.1, first part: from f_code, motion_code and motion_residual to f and delta, over whole numbers.
 -- The scope (docs/SCOPE.md): refusals 1 to 4 and their order; codes are -16 to 16; a residual is any byte, whatever the f_code.
-use Rattle.std.specs.Prelude.{Bool, true, false, not, ◌&&◌, ◌||◌, cond, ℕ, ◌+◌, ◌-◌, ◌*◌, ◌^◌, leb, eqb, ℤ, pos, negsuc, neg_ℤ, nat_abs, Option, is_some, unwrap_or}
+use Rattle.std.specs.Prelude.{Bool, not, ◌&&◌, ◌||◌, cond, ℕ, ◌+◌, ◌-◌, ◌*◌, ◌^◌, leb, eqb, ℤ, pos, negsuc, neg_ℤ, nat_abs, Option, is_some, unwrap_or}
 use Rattle.std.specs.Int.Signed.{lt_z, le_z}
 use Rattle.combine_predictions.specs.Refusals.{cause, or_else}
 use Rattle.pmv.specs.declared.component.VectorRefusal.{VectorRefusal}

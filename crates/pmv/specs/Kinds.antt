@@ -1,7 +1,7 @@
 -- The kinds that this layer's calls choose by. docs/SCOPE.md counts them from 0 in the order of the Rust's enums where they cross to C, and
--- any other number has no meaning. `XNumber` is the number of a kind, `XFrom` the kind of a number, if there is one; proofs/Numbers.antt
--- shows that each undoes the other. Component and PictureCodingType cross in no C call, and have no `XFrom`; parities and flags are only read,
--- and have no `XNumber`.
+-- any other number has no meaning. `x_number` is the number of a kind, `x_from` the kind of a number, if there is one; proofs/Numbers.antt
+-- shows that each undoes the other. Component and PictureCodingType cross in no C call, and have no `x_from`; parities and flags are only read,
+-- and have no `x_number`.
 -- The standard has the kinds: r, s and t in Table 7-7, the motion types in Tables 6-17 and 6-18, and picture_structure, picture_coding_type and
 -- chroma_format, whose codes are others.
 use Rattle.std.specs.Prelude.{Bool, true, false, cond, ℕ, eqb, Option, Some, None}

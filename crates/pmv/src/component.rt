@@ -166,17 +166,11 @@ pub fn compute_delta(
 
 // ---- range
 
-/// low, high and range for f.
-fn range_of(f: u32) -> VectorRange
-    requires { f ≤ 256 }
-    ensures { (result ≡ range_of f) × Small result }
-{
-    let n = (16 * f) as i32;
-    VectorRange {
-        low: 0 - n,
-        high: n - 1,
-        range: (32 * f) as i32,
-    }
+/// The range of an f_code. Its numbers are small, so that no sum with them wraps.
+#[derive(Clone, Copy)]
+struct Bounds {
+    ends: VectorRange,
+    ghost small: { Small ends },
 }
 
 /// The range of vectors that an f_code gives.
@@ -188,24 +182,94 @@ pub fn vector_range(f_code: u8) -> Result<VectorRange, VectorRefusal>
     if !f_code_fits(f_code) {
         return Err(VectorRefusal::FCodeOutside);
     }
-    Ok(range_of(scale_of(f_code)))
+    Ok(Bounds::of_scale(scale_of(f_code)).ends)
 }
 
-/// How far v is above low: by it, one comparison tests both ends.
-fn above_low(b: VectorRange, v: i64) -> i64
-    requires { Small b × Within 4294983680 v }
-    ensures { result ≡ v -ℤ b.low }
-{
-    v - b.low as i64
-}
+impl Bounds {
+    /// low, high and range for f.
+    fn of_scale(f: u32) -> Self
+        requires { f ≤ 256 }
+        ensures { result.ends ≡ range_of f }
+    {
+        let n = (16 * f) as i32;
+        Bounds {
+            ends: VectorRange {
+                low: 0 - n,
+                high: n - 1,
+                range: (32 * f) as i32,
+            },
+        }
+    }
 
-#[tactic(auto, using(crate::proofs::Ranges::range_fits, crate::proofs::Ranges::from_low, crate::proofs::Ranges::to_high, laws::proofs::Bits::widened))]
-fn in_range(b: VectorRange, v: i64) -> bool
-    requires { Small b × Within 4294983680 v }
-    ensures { result ≡ in_range b v }
-{
-    let above = above_low(b, v);
-    (0 <= above) & (above < b.range as i64)
+    /// How far v is above low: by it, one comparison tests both ends.
+    fn above_low(self, v: i64) -> i64
+        requires { Within 4294983680 v }
+        ensures { result ≡ v -ℤ self.ends.low }
+    {
+        v - self.ends.low as i64
+    }
+
+    #[tactic(auto, using(crate::proofs::Ranges::range_fits, crate::proofs::Ranges::from_low, crate::proofs::Ranges::to_high, laws::proofs::Bits::widened))]
+    fn contains(self, v: i64) -> bool
+        requires { Within 4294983680 v }
+        ensures { result ≡ in_range self.ends v }
+    {
+        let above = self.above_low(v);
+        (0 <= above) & (above < self.ends.range as i64)
+    }
+
+    fn raise(self, v: i64) -> i64
+        requires { Within 4294967296 v }
+        ensures { (result ≡ raised self.ends v) × Within 4294975488 result }
+    {
+        if v < self.ends.low as i64 {
+            return v + self.ends.range as i64;
+        }
+        v
+    }
+
+    fn lower(self, v: i64) -> i64
+        requires { Within 4294975488 v }
+        ensures { (result ≡ lowered self.ends v) × Within 4294983680 result }
+    {
+        if self.ends.range as i64 <= self.above_low(v) {
+            return v - self.ends.range as i64;
+        }
+        v
+    }
+
+    /// The vector before its last test.
+    #[tactic(auto, unfolding(crate::specs::Component::wrapped))]
+    fn wrap(self, prior_pmv: i32, halved: bool, offset: i32) -> i64
+        ensures { (result ≡ vector_of self.ends halved prior_pmv offset) × Within 4294983680 result }
+    {
+        self.lower(self.raise(summed(predicted(prior_pmv, halved), offset)))
+    }
+
+    /// A component from its delta.
+    fn component(
+        self,
+        halved: bool,
+        prior_pmv: i32,
+        offset: i32,
+    ) -> Result<ReconstructedComponent, VectorRefusal>
+        ensures { result ≡ answered (from_delta_refusal self.ends halved prior_pmv offset) (from_delta self.ends halved prior_pmv offset) }
+    {
+        if !self.contains(offset as i64) {
+            return Err(VectorRefusal::DeltaOutside);
+        }
+        let v = self.wrap(prior_pmv, halved, offset);
+        if !self.contains(v) {
+            return Err(VectorRefusal::VectorOutside);
+        }
+        let vector = v as i32;
+        Ok(ReconstructedComponent {
+            vector_prime: vector,
+            new_pmv: next_predictor(vector, halved),
+            delta: offset,
+            range: self.ends.range,
+        })
+    }
 }
 
 // ---- a component
@@ -236,35 +300,6 @@ fn summed(base: i32, offset: i32) -> i64
     base as i64 + offset as i64
 }
 
-fn raise(b: VectorRange, v: i64) -> i64
-    requires { Small b × Within 4294967296 v }
-    ensures { (result ≡ raised b v) × Within 4294975488 result }
-{
-    if v < b.low as i64 {
-        return v + b.range as i64;
-    }
-    v
-}
-
-fn lower(b: VectorRange, v: i64) -> i64
-    requires { Small b × Within 4294975488 v }
-    ensures { (result ≡ lowered b v) × Within 4294983680 result }
-{
-    if b.range as i64 <= above_low(b, v) {
-        return v - b.range as i64;
-    }
-    v
-}
-
-/// The vector before its last test.
-#[tactic(auto, unfolding(crate::specs::Component::wrapped))]
-fn wrap(b: VectorRange, prior_pmv: i32, halved: bool, offset: i32) -> i64
-    requires { Small b }
-    ensures { (result ≡ vector_of b halved prior_pmv offset) × Within 4294983680 result }
-{
-    lower(b, raise(b, summed(predicted(prior_pmv, halved), offset)))
-}
-
 /// The predictor to be stored counts frame lines again.
 fn next_predictor(vector: i32, halved: bool) -> i32
     requires { Within 4096 vector }
@@ -274,32 +309,6 @@ fn next_predictor(vector: i32, halved: bool) -> i32
         return vector * 2;
     }
     vector
-}
-
-/// A component from its delta.
-fn from_delta(
-    b: VectorRange,
-    halved: bool,
-    prior_pmv: i32,
-    offset: i32,
-) -> Result<ReconstructedComponent, VectorRefusal>
-    requires { Small b }
-    ensures { result ≡ answered (from_delta_refusal b halved prior_pmv offset) (from_delta b halved prior_pmv offset) }
-{
-    if !in_range(b, offset as i64) {
-        return Err(VectorRefusal::DeltaOutside);
-    }
-    let v = wrap(b, prior_pmv, halved, offset);
-    if !in_range(b, v) {
-        return Err(VectorRefusal::VectorOutside);
-    }
-    let vector = v as i32;
-    Ok(ReconstructedComponent {
-        vector_prime: vector,
-        new_pmv: next_predictor(vector, halved),
-        delta: offset,
-        range: b.range,
-    })
 }
 
 /// A component of a vector from what the stream has of it and the predictor PMV\[r\]\[s\]\[t\]. Nothing is stored.
@@ -319,5 +328,5 @@ pub fn reconstruct_component(
 {
     let halved = halves_prediction(mv_format, picture, t);
     let delta = compute_delta(motion_code, motion_residual, f_code)?;
-    from_delta(range_of(scale_of(f_code)), halved, prior_pmv, delta)
+    Bounds::of_scale(scale_of(f_code)).component(halved, prior_pmv, delta)
 }

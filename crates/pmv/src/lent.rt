@@ -1,5 +1,6 @@
 //! ISO/IEC 13818-2, 7.6.3.1, 7.6.3.3, 7.6.3.4 and 7.7.5.1 once more, on predictors that are lent: a loop over macroblocks holds the record,
-//! and each call updates it there. A call here copies the record out, makes the call by value, and stores what that gives.
+//! and each call updates it there. A call here copies the record out, makes the call by value, and stores what that gives. The twin by value
+//! stays, since docs/SCOPE.md asks for both.
 ghost use Rattle.std.specs.Prelude.{◌≡◌, false};
 ghost use Rattle.std.specs.Result.{result_ok, result_err};
 ghost use Rattle.combine_predictions.specs.Refusals.{value_unless};

@@ -24,14 +24,11 @@ pub fn place_of(r: VectorIndex, s: Direction, t: Component) -> usize
     r as usize * 4 + s as usize * 2 + t as usize
 }
 
-/// What is at a place after `value` was put at place k.
-fn put(k: usize, at: usize, value: i32, old: i32) -> i32
-    ensures { result ≡ cond (eqb k at) value old }
+/// `first` where the test holds, and else `second`: both are made before, so that no jump depends on the test.
+pub(crate) fn chosen<T: Copy>(test: bool, first: T, second: T) -> T
+    ensures { result ≡ cond test first second }
 {
-    if k == at {
-        return value;
-    }
-    old
+    if test { first } else { second }
 }
 
 impl Pmv {
@@ -66,14 +63,14 @@ impl Pmv {
         let v = self.values;
         Pmv {
             values: [
-                put(k, 0, value, v[0]),
-                put(k, 1, value, v[1]),
-                put(k, 2, value, v[2]),
-                put(k, 3, value, v[3]),
-                put(k, 4, value, v[4]),
-                put(k, 5, value, v[5]),
-                put(k, 6, value, v[6]),
-                put(k, 7, value, v[7]),
+                chosen(k == 0, value, v[0]),
+                chosen(k == 1, value, v[1]),
+                chosen(k == 2, value, v[2]),
+                chosen(k == 3, value, v[3]),
+                chosen(k == 4, value, v[4]),
+                chosen(k == 5, value, v[5]),
+                chosen(k == 6, value, v[6]),
+                chosen(k == 7, value, v[7]),
             ],
         }
     }

@@ -5,10 +5,10 @@ ghost use Rattle.pmv.specs.Update.{update_refusal, update_outcome, outcome_numbe
 ghost use Rattle.std.specs.Result.{result_ok, result_err};
 ghost use Rattle.combine_predictions.specs.Refusals.{value_unless};
 ghost use Rattle.pmv.specs.Refusals.{update_number};
-ghost use Rattle.pmv.specs.inner.Rows.{flag_number, table_row, decided_row, outcome_of, refusal_of, answer_of, carried_out};
+ghost use Rattle.pmv.specs.inner.Rows.{table_row, decided_row, answer_of, carried_out};
 
 use crate::kinds::{PictureCodingType, PictureStructure, PredictionType};
-use crate::predictors::Pmv;
+use crate::predictors::{Pmv, chosen};
 
 /// Why an update is refused. Each reason has its number of docs/SCOPE.md.
 #[derive(Clone, Copy, Debug, PartialEq, Eq)]
@@ -79,44 +79,45 @@ pub struct SpatialTemporalReset {
     pub pmv: Pmv,
 }
 
-// A row of the tables is a byte: eight times its number, which is the outcome's, or 16 and the refusal's; and below that what it does to the
-// predictors. An enum would be matched, and a match is a jump that nothing predicts.
+// A row of the tables is a byte: its number, which is the outcome's, or 1 and the refusal's, and above that what it does to the predictors. An
+// enum would be matched, and a match is a jump that nothing predicts.
 
 /// First to second, forward.
-const COPIES_FORWARD: u8 = 1;
+const COPIES_FORWARD: u8 = 16;
 /// First to second, backward.
-const COPIES_BACKWARD: u8 = 2;
+const COPIES_BACKWARD: u8 = 32;
 /// All zero.
-const RESETS: u8 = 4;
+const RESETS: u8 = 64;
 
 /// Intra with concealment vectors.
-const INTRA_CONCEALMENT: u8 = COPIES_FORWARD;
+const INTRA_CONCEALMENT: u8 = PmvUpdateOutcome::IntraConcealmentCopyForwardFirst as u8
+    + COPIES_FORWARD;
 /// Intra without.
-const INTRA_RESET: u8 = 8 + RESETS;
+const INTRA_RESET: u8 = PmvUpdateOutcome::IntraResetAll as u8 + RESETS;
 /// Motion in both directions.
-const COPY_BOTH: u8 = 2 * 8 + COPIES_FORWARD + COPIES_BACKWARD;
+const COPY_BOTH: u8 = PmvUpdateOutcome::NonIntraCopyBoth as u8 + COPIES_FORWARD + COPIES_BACKWARD;
 /// Forward alone.
-const COPY_FORWARD: u8 = 3 * 8 + COPIES_FORWARD;
+const COPY_FORWARD: u8 = PmvUpdateOutcome::NonIntraCopyForward as u8 + COPIES_FORWARD;
 /// Backward alone.
-const COPY_BACKWARD: u8 = 4 * 8 + COPIES_BACKWARD;
+const COPY_BACKWARD: u8 = PmvUpdateOutcome::NonIntraCopyBackward as u8 + COPIES_BACKWARD;
 /// No motion flag.
-const ZERO_MOTION: u8 = 5 * 8 + RESETS;
+const ZERO_MOTION: u8 = PmvUpdateOutcome::NonIntraZeroMotionReset as u8 + RESETS;
 /// "(none)".
-const UNCHANGED: u8 = 6 * 8;
+const UNCHANGED: u8 = PmvUpdateOutcome::NoUpdate as u8;
 /// Dual prime.
-const DUAL_PRIME: u8 = 7 * 8 + COPIES_FORWARD;
+const DUAL_PRIME: u8 = PmvUpdateOutcome::DualPrimeCopyForward as u8 + COPIES_FORWARD;
 /// No row: refusal 7.
-const REFUSED_7: u8 = (16 + UpdateRefusal::IntraWithMotion as u8) * 8;
+const REFUSED_7: u8 = 1 + UpdateRefusal::IntraWithMotion as u8;
 /// No row: refusal 8.
-const REFUSED_8: u8 = (16 + UpdateRefusal::TypeMissing as u8) * 8;
+const REFUSED_8: u8 = 1 + UpdateRefusal::TypeMissing as u8;
 /// No row: refusal 9.
-const REFUSED_9: u8 = (16 + UpdateRefusal::FrameBasedInField as u8) * 8;
+const REFUSED_9: u8 = 1 + UpdateRefusal::FrameBasedInField as u8;
 /// No row: refusal 10.
-const REFUSED_10: u8 = (16 + UpdateRefusal::SixteenByEightInFrame as u8) * 8;
+const REFUSED_10: u8 = 1 + UpdateRefusal::SixteenByEightInFrame as u8;
 /// No row: refusal 11.
-const REFUSED_11: u8 = (16 + UpdateRefusal::DualPrimeFlags as u8) * 8;
+const REFUSED_11: u8 = 1 + UpdateRefusal::DualPrimeFlags as u8;
 /// No row: refusal 12.
-const REFUSED_12: u8 = (16 + UpdateRefusal::NoneRowFlags as u8) * 8;
+const REFUSED_12: u8 = 1 + UpdateRefusal::NoneRowFlags as u8;
 
 /// Tables 7-10 and 7-11: by picture (field, frame), then type (field-based, frame-based, 16 × 8, dual prime), then forward, backward and
 /// intra, which counts fastest: eight lines for each picture and type, the first of them without a flag. Concealment and an absent type are
@@ -188,6 +189,26 @@ const OUTCOMES: [u8; 64] = [
     REFUSED_7,
 ];
 
+/// The answers by the numbers of rows, the outcomes and then the refusals. The last two are of no row.
+static ANSWERS: [Result<PmvUpdateOutcome, UpdateRefusal>; 16] = [
+    Ok(PmvUpdateOutcome::IntraConcealmentCopyForwardFirst),
+    Ok(PmvUpdateOutcome::IntraResetAll),
+    Ok(PmvUpdateOutcome::NonIntraCopyBoth),
+    Ok(PmvUpdateOutcome::NonIntraCopyForward),
+    Ok(PmvUpdateOutcome::NonIntraCopyBackward),
+    Ok(PmvUpdateOutcome::NonIntraZeroMotionReset),
+    Ok(PmvUpdateOutcome::NoUpdate),
+    Ok(PmvUpdateOutcome::DualPrimeCopyForward),
+    Err(UpdateRefusal::IntraWithMotion),
+    Err(UpdateRefusal::TypeMissing),
+    Err(UpdateRefusal::FrameBasedInField),
+    Err(UpdateRefusal::SixteenByEightInFrame),
+    Err(UpdateRefusal::DualPrimeFlags),
+    Err(UpdateRefusal::NoneRowFlags),
+    Err(UpdateRefusal::NoneRowFlags),
+    Err(UpdateRefusal::NoneRowFlags),
+];
+
 impl From<PmvUpdateOutcome> for u8 {
     ghost from_gives = { λ outcome number. number ≡ outcome_number outcome };
 
@@ -197,34 +218,14 @@ impl From<PmvUpdateOutcome> for u8 {
     }
 }
 
-/// 1 or 0, to be counted with.
-fn bit(x: bool) -> usize
-    ensures { (result ≡ flag_number x) × (result ≤ 1) }
-{
-    if x {
-        return 1;
-    }
-    0
-}
-
 /// The place of the table for these keys.
 #[tactic(auto, unfolding(crate::specs::inner::Rows::outcomes))]
 fn row_at(frame: bool, t: PredictionType, forward: bool, backward: bool, intra: bool) -> u8
     ensures { result ≡ table_row frame t forward backward intra }
 {
-    let kind = bit(frame) * 32 + t as usize * 8;
-    let flags = bit(forward) * 4 + bit(backward) * 2 + bit(intra);
+    let kind = frame as usize * 32 + t as usize * 8;
+    let flags = forward as usize * 4 + backward as usize * 2 + intra as usize;
     OUTCOMES[kind + flags]
-}
-
-/// `row`, and `other` where it is decided beside the table.
-fn row_unless(decided: bool, other: u8, row: u8) -> u8
-    ensures { result ≡ cond decided other row }
-{
-    if decided {
-        return other;
-    }
-    row
 }
 
 /// Which row of the tables the context asks for.
@@ -245,86 +246,20 @@ fn decide(ctx: PmvUpdateContext) -> u8
         backward,
         intra,
     );
-    let typed = row_unless(prediction_type.is_none() & !intra, REFUSED_8, row);
-    row_unless(
+    let typed = chosen(prediction_type.is_none() & !intra, REFUSED_8, row);
+    chosen(
         (ctx.concealment_motion_vectors & intra) & !(forward | backward),
         INTRA_CONCEALMENT,
         typed,
     )
 }
 
-/// The outcome with this number, which is at most 7.
-#[tactic(auto, unfolding(crate::specs::inner::Rows::outcome_of))]
-fn outcome_of(number: u8) -> PmvUpdateOutcome
-    ensures { result ≡ outcome_of number }
-{
-    if number == 0 {
-        return PmvUpdateOutcome::IntraConcealmentCopyForwardFirst;
-    }
-    if number == 1 {
-        return PmvUpdateOutcome::IntraResetAll;
-    }
-    if number == 2 {
-        return PmvUpdateOutcome::NonIntraCopyBoth;
-    }
-    if number == 3 {
-        return PmvUpdateOutcome::NonIntraCopyForward;
-    }
-    if number == 4 {
-        return PmvUpdateOutcome::NonIntraCopyBackward;
-    }
-    if number == 5 {
-        return PmvUpdateOutcome::NonIntraZeroMotionReset;
-    }
-    if number == 6 {
-        return PmvUpdateOutcome::NoUpdate;
-    }
-    PmvUpdateOutcome::DualPrimeCopyForward
-}
-
-/// The refusal with this number, which is 7 to 12.
-#[tactic(auto, unfolding(crate::specs::inner::Rows::refusal_of))]
-fn refusal_of(number: u8) -> UpdateRefusal
-    ensures { result ≡ refusal_of number }
-{
-    if number == 7 {
-        return UpdateRefusal::IntraWithMotion;
-    }
-    if number == 8 {
-        return UpdateRefusal::TypeMissing;
-    }
-    if number == 9 {
-        return UpdateRefusal::FrameBasedInField;
-    }
-    if number == 10 {
-        return UpdateRefusal::SixteenByEightInFrame;
-    }
-    if number == 11 {
-        return UpdateRefusal::DualPrimeFlags;
-    }
-    UpdateRefusal::NoneRowFlags
-}
-
-/// The answer that a row stands for. Both parts are made before the test, so that it chooses and does not jump.
-#[tactic(auto, unfolding(crate::specs::inner::Rows::answer_of))]
+/// The answer that a row stands for: looked up, so that no jump depends on it.
+#[tactic(auto, unfolding(crate::specs::inner::Rows::answers))]
 fn answer_of(row: u8) -> Result<PmvUpdateOutcome, UpdateRefusal>
     ensures { result ≡ answer_of row }
 {
-    let outcome = outcome_of(row / 8 % 8);
-    let refusal = refusal_of(row / 8 % 16);
-    if row < 128 {
-        return Ok(outcome);
-    }
-    Err(refusal)
-}
-
-fn chosen(first: bool, a: i32, b: i32) -> i32
-    ensures { result ≡ cond first a b }
-{
-    if first {
-        return a;
-    }
-    b
+    ANSWERS[(row % 16) as usize]
 }
 
 /// What a row does to the predictors. All eight are written out, as in `Pmv::with`.

@@ -2,7 +2,7 @@
 -- proofs/Rows.antt has that all this agrees with the rule. For private contracts alone.
 -- The scope (docs/SCOPE.md): one constant table of 64 outcomes, here by picture, type, forward, backward and intra; concealment and an
 -- absent type beside it.
-use Rattle.std.specs.Prelude.{Bool, true, false, not, ◌&&◌, ◌||◌, cond, List, [], ◌∷◌, ℕ, ◌+◌, ◌*◌, ◌/◌, ◌%◌, eqb, ltb, ℤ, pos, get_or, Option, is_none, unwrap_or, Result, Ok, Err}
+use Rattle.std.specs.Prelude.{Bool, true, false, not, ◌&&◌, ◌||◌, cond, List, [], ◌∷◌, ℕ, ◌+◌, ◌*◌, ◌%◌, eqb, ℤ, pos, get_or, Option, is_none, unwrap_or, Result, Ok, Err}
 use Rattle.std.specs.Int.Bits.{bit_and}
 use Rattle.pmv.specs.Kinds.{type_number, is_frame_picture}
 use Rattle.pmv.specs.declared.kinds.PredictionType.{PredictionType}
@@ -17,14 +17,14 @@ use Rattle.pmv.specs.declared.update.UpdateRefusal.TheVariants as R
 -- ---- the table: a line for each picture and type
 unfoldable pub outcomes : List ℕ
 outcomes =
-    44 ∷ 12 ∷ 34 ∷ 184 ∷ 25 ∷ 184 ∷ 19 ∷ 184
-    ∷ 200 ∷ 12 ∷ 200 ∷ 184 ∷ 200 ∷ 184 ∷ 200 ∷ 184
-    ∷ 224 ∷ 12 ∷ 48 ∷ 184 ∷ 48 ∷ 184 ∷ 48 ∷ 184
-    ∷ 216 ∷ 12 ∷ 216 ∷ 184 ∷ 57 ∷ 184 ∷ 216 ∷ 184
-    ∷ 224 ∷ 12 ∷ 48 ∷ 184 ∷ 48 ∷ 184 ∷ 48 ∷ 184
-    ∷ 44 ∷ 12 ∷ 34 ∷ 184 ∷ 25 ∷ 184 ∷ 19 ∷ 184
-    ∷ 208 ∷ 12 ∷ 208 ∷ 184 ∷ 208 ∷ 184 ∷ 208 ∷ 184
-    ∷ 216 ∷ 12 ∷ 216 ∷ 184 ∷ 57 ∷ 184 ∷ 216 ∷ 184
+    69 ∷ 65 ∷ 36 ∷ 8 ∷ 19 ∷ 8 ∷ 50 ∷ 8
+    ∷ 10 ∷ 65 ∷ 10 ∷ 8 ∷ 10 ∷ 8 ∷ 10 ∷ 8
+    ∷ 13 ∷ 65 ∷ 6 ∷ 8 ∷ 6 ∷ 8 ∷ 6 ∷ 8
+    ∷ 12 ∷ 65 ∷ 12 ∷ 8 ∷ 23 ∷ 8 ∷ 12 ∷ 8
+    ∷ 13 ∷ 65 ∷ 6 ∷ 8 ∷ 6 ∷ 8 ∷ 6 ∷ 8
+    ∷ 69 ∷ 65 ∷ 36 ∷ 8 ∷ 19 ∷ 8 ∷ 50 ∷ 8
+    ∷ 11 ∷ 65 ∷ 11 ∷ 8 ∷ 11 ∷ 8 ∷ 11 ∷ 8
+    ∷ 12 ∷ 65 ∷ 12 ∷ 8 ∷ 23 ∷ 8 ∷ 12 ∷ 8
     ∷ []
 
 -- a flag, to be counted with
@@ -39,7 +39,7 @@ table_row p t f b i = get_or outcomes ((flag_number p * 32 + type_number t * 8) 
 -- frame picture, type, forward, backward, intra, concealment
 unfoldable pub row_for : Bool → Option PredictionType → Bool → Bool → Bool → Bool → ℕ
 row_for frame type f b i c =
-    cond ((c && i) && not (f || b)) 1 (cond (is_none type && not i) 192 (table_row frame (unwrap_or type FieldBased) f b i))
+    cond ((c && i) && not (f || b)) 16 (cond (is_none type && not i) 9 (table_row frame (unwrap_or type FieldBased) f b i))
 
 abbrev pub decided_row : PmvUpdateContext → ℕ
 decided_row x =
@@ -47,24 +47,31 @@ decided_row x =
     x.macroblock_motion_backward x.macroblock_intra x.concealment_motion_vectors
 
 -- ---- what a row stands for
-unfoldable pub outcome_of : ℕ → PmvUpdateOutcome
-outcome_of k =
-    cond (eqb k 0) O.IntraConcealmentCopyForwardFirst
-    (cond (eqb k 1) O.IntraResetAll
-    (cond (eqb k 2) O.NonIntraCopyBoth
-    (cond (eqb k 3) O.NonIntraCopyForward
-    (cond (eqb k 4) O.NonIntraCopyBackward
-    (cond (eqb k 5) O.NonIntraZeroMotionReset (cond (eqb k 6) O.NoUpdate O.DualPrimeCopyForward))))))
+unfoldable pub answers : List (Result PmvUpdateOutcome UpdateRefusal)
+answers =
+    Ok O.IntraConcealmentCopyForwardFirst
+    ∷ Ok O.IntraResetAll
+    ∷ Ok O.NonIntraCopyBoth
+    ∷ Ok O.NonIntraCopyForward
+    ∷ Ok O.NonIntraCopyBackward
+    ∷ Ok O.NonIntraZeroMotionReset
+    ∷ Ok O.NoUpdate
+    ∷ Ok O.DualPrimeCopyForward
+    ∷ Err R.IntraWithMotion
+    ∷ Err R.TypeMissing
+    ∷ Err R.FrameBasedInField
+    ∷ Err R.SixteenByEightInFrame
+    ∷ Err R.DualPrimeFlags
+    ∷ Err R.NoneRowFlags
+    ∷ Err R.NoneRowFlags
+    ∷ Err R.NoneRowFlags
+    ∷ []
 
-unfoldable pub refusal_of : ℕ → UpdateRefusal
-refusal_of k =
-    cond (eqb k 7) R.IntraWithMotion
-    (cond (eqb k 8) R.TypeMissing
-    (cond (eqb k 9) R.FrameBasedInField
-    (cond (eqb k 10) R.SixteenByEightInFrame (cond (eqb k 11) R.DualPrimeFlags R.NoneRowFlags))))
+abbrev pub answer_at : ℕ → Result PmvUpdateOutcome UpdateRefusal
+answer_at k = get_or answers k (Ok O.IntraConcealmentCopyForwardFirst)
 
-unfoldable pub answer_of : ℕ → Result PmvUpdateOutcome UpdateRefusal
-answer_of row = cond (ltb row 128) (Ok (outcome_of (row / 8 % 8))) (Err (refusal_of (row / 8 % 16)))
+abbrev pub answer_of : ℕ → Result PmvUpdateOutcome UpdateRefusal
+answer_of row = answer_at (row % 16)
 
 -- and does: whether it has a bit
 abbrev pub has : ℕ → ℕ → Bool
@@ -84,4 +91,4 @@ written zero f b l =
     ∷ []
 
 abbrev pub carried_out : ℕ → Pmv → Pmv
-carried_out row pmv = record { values = written (has row 4) (has row 1) (has row 2) pmv.values }
+carried_out row pmv = record { values = written (has row 64) (has row 16) (has row 32) pmv.values }

@@ -4,7 +4,7 @@ use Rattle.std.proofs.Common.{◌≡◌, ap, ◌∙◌, ℕ, length, rules}
 use Rattle.pmv.specs.Kinds.{is_frame_picture}
 use Rattle.pmv.specs.Update.{updated}
 use Rattle.pmv.specs.inner.Rows.{answer_of, carried_out}
-use Rattle.pmv.proofs.Rows.{answers, does}
+use Rattle.pmv.proofs.Rows.{answer_right, does}
 use Rattle.combine_predictions.proofs.Answers.{refusal_of, value_of}
 use Rattle.pmv.proofs.update.updated_predictors.Goals as goal
 
@@ -21,7 +21,7 @@ returns c =
     let t = x.macroblock_intra in
     let h = x.concealment_motion_vectors in
     let d = c.decide-row.ensures in
-    let ea = c.answer_of.ensures ∙ ap answer_of d ∙ answers frame m f b t h in
+    let ea = c.answer_of.ensures ∙ ap answer_of d ∙ answer_right frame m f b t h in
     let ep = c.carried_out.ensures ∙ ap (λ (k : ℕ). carried_out k p) d ∙ does frame m f b t h p eight in
     record {
       update = λ i. record { answer = ea i; pmv = ep i };

@@ -6,7 +6,7 @@ use mir.Facts.{to_z-of_z}
 use Rattle.std.proofs.lemmas.Int.{ints}
 use Rattle.pmv.specs.Component.{range_of}
 use Rattle.pmv.proofs.Ranges.{range_small, low_fits, high_fits}
-use Rattle.pmv.proofs.component.range_of.Goals as goal
+use Rattle.pmv.proofs.component.Bounds.of_scale.Goals as goal
 
 pub returns : goal.returns
 unfolding range_of

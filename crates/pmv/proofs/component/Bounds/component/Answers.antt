@@ -9,15 +9,15 @@ use Rattle.laws.proofs.Bits.{widened}
 use Rattle.laws.proofs.Bounded.{Within, within_fits}
 use Rattle.pmv.specs.Component.{from_delta, from_delta_refusal}
 use Rattle.pmv.proofs.Ranges.{range_fits, in_range_within}
-use Rattle.pmv.proofs.component.from_delta.Goals as goal
+use Rattle.pmv.proofs.component.Bounds.component.Goals as goal
 
-pub returns-then-not-in_range : goal.returns-then-not-in_range
+pub returns-then-not-contains : goal.returns-then-not-contains
 unfolding from_delta_refusal
-returns-then-not-in_range c = grind (arith, common_steps, widened)
+returns-then-not-contains c = grind (arith, common_steps, widened)
 
-pub returns-then-not-in_range-2 : goal.returns-then-not-in_range-2
+pub returns-then-not-contains-2 : goal.returns-then-not-contains-2
 unfolding from_delta_refusal
-returns-then-not-in_range-2 c = grind (arith, common_steps, to_z-of_z, widened)
+returns-then-not-contains-2 c = grind (arith, common_steps, to_z-of_z, widened)
 
 pub next_predictor-requires : goal.next_predictor-requires
 next_predictor-requires c =
@@ -30,5 +30,5 @@ unfolding from_delta from_delta_refusal
 returns c =
     let w : Within 4096 c.wrap-v.result = grind (arith, common_steps, to_z-of_z, in_range_within) in
     let f : SFits w32 c.wrap-v.result = within_fits w (omega arith) in
-    let r : SFits w32 c.args.b.range = range_fits c.requires in
+    let r : SFits w32 c.args.self.ends.range = range_fits c.args.self.small in
     grind (arith, common_steps, to_z-of_z, widened)
