@@ -159,10 +159,8 @@ struct VectorRead {
 fn read_residual(present: u32, residual: u8) -> Result<Option<u8>, NoMeaning>
     ensures { result ≡ residual_read present residual }
 {
-    if flag_from_number(present)? {
-        return Ok(Some(residual));
-    }
-    Ok(None)
+    let there = flag_from_number(present)?;
+    Ok(if there { Some(residual) } else { None })
 }
 
 /// A motion type that is absent is not read.
@@ -170,10 +168,12 @@ fn read_residual(present: u32, residual: u8) -> Result<Option<u8>, NoMeaning>
 fn read_type(present: u32, number: u32) -> Result<Option<PredictionType>, NoMeaning>
     ensures { result ≡ type_read present number }
 {
-    if flag_from_number(present)? {
-        return Ok(Some(PredictionType::try_from(number)?));
-    }
-    Ok(None)
+    let there = flag_from_number(present)?;
+    Ok(if there {
+        Some(PredictionType::try_from(number)?)
+    } else {
+        None
+    })
 }
 
 #[tactic(auto, unfolding(crate::specs::Entries::vector_known))]
