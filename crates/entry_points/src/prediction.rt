@@ -9,7 +9,7 @@ ghost use Rattle.inter_reconstruction.specs.Refusals.{prediction_refusal};
 ghost use Rattle.inter_reconstruction.specs.Answers.{prediction_number};
 ghost use Rattle.entry_points.specs.Entries.{unknown_refusal, is_yes, presence_known, reference_known, fields_known, frame_known, field_known, geometry_of, reference_of, frame_direction_of, field_vector_of, field_direction_of, frame_motion_of, field_motion_of};
 
-use forming_predictions::ReferencePlane;
+use forming_predictions::{FieldParity, ReferencePlane};
 use inter_reconstruction::frames::{FrameBuffer, FrameGeometry, ReferenceFrame};
 use inter_reconstruction::macroblock::{
     MacroblockPrediction, predict_field_based_macroblock_planes, predict_frame_macroblock_planes,
@@ -21,7 +21,7 @@ use inter_reconstruction::motion::{
 use pmv::kinds::{ChromaFormat, flag_from_number, parity_from_number};
 
 /// Refusal: a number that is read has no meaning.
-pub const NO_MEANING: u8 = 38;
+pub const NO_MEANING: u32 = 38;
 
 /// 0, or the number of the refusal.
 fn number_of(answer: MacroblockPrediction) -> u32
@@ -47,8 +47,8 @@ fn presence_known(present: u32, rest: bool) -> bool
 fn reference_known(present: u32, format: u32) -> bool
     ensures { result ≡ reference_known present format }
 {
-    let kind = ChromaFormat::from_number(format);
-    presence_known(present, kind.is_some())
+    let kind = ChromaFormat::try_from(format);
+    presence_known(present, kind.is_ok())
 }
 
 /// A presence, with two fields' parities that are read where it is 1.
@@ -58,7 +58,7 @@ fn fields_known(present: u32, top_field: u32, bottom_field: u32) -> bool
 {
     let top = parity_from_number(top_field);
     let bottom = parity_from_number(bottom_field);
-    presence_known(present, top.is_some() & bottom.is_some())
+    presence_known(present, top.is_ok() & bottom.is_ok())
 }
 
 #[tactic(auto, unfolding(crate::specs::Entries::frame_known))]
@@ -73,13 +73,13 @@ fn frame_known(
 ) -> bool
     ensures { result ≡ frame_known chroma_format forward_present forward_format backward_present backward_format forward_motion backward_motion }
 {
-    let kind = ChromaFormat::from_number(chroma_format);
+    let kind = ChromaFormat::try_from(chroma_format);
     let forward = flag_from_number(forward_motion);
     let backward = flag_from_number(backward_motion);
-    kind.is_some()
+    kind.is_ok()
         & (reference_known(forward_present, forward_format)
             & (reference_known(backward_present, backward_format)
-                & (forward.is_some() & backward.is_some())))
+                & (forward.is_ok() & backward.is_ok())))
 }
 
 #[tactic(auto, unfolding(crate::specs::Entries::field_known))]
@@ -98,10 +98,10 @@ fn field_known(
 ) -> bool
     ensures { result ≡ field_known chroma_format forward_present forward_format backward_present backward_format forward_motion forward_top_field forward_bottom_field backward_motion backward_top_field backward_bottom_field }
 {
-    let kind = ChromaFormat::from_number(chroma_format);
+    let kind = ChromaFormat::try_from(chroma_format);
     let forward = fields_known(forward_motion, forward_top_field, forward_bottom_field);
     let backward = fields_known(backward_motion, backward_top_field, backward_bottom_field);
-    kind.is_some()
+    kind.is_ok()
         & (reference_known(forward_present, forward_format)
             & (reference_known(backward_present, backward_format) & (forward & backward)))
 }
@@ -113,18 +113,18 @@ pub fn is_yes(number: u32) -> bool
     ensures { result ≡ is_yes number }
 {
     let flag = flag_from_number(number);
-    flag.or_first()
+    flag.unwrap_or(false)
 }
 
 #[tactic(auto, unfolding(crate::specs::Entries::geometry_of))]
 fn geometry_of(width: usize, height: usize, chroma_format: u32) -> FrameGeometry
     ensures { result ≡ geometry_of width height chroma_format }
 {
-    let kind = ChromaFormat::from_number(chroma_format);
+    let kind = ChromaFormat::try_from(chroma_format);
     FrameGeometry {
         width: width,
         height: height,
-        chroma_format: kind.or_first(),
+        chroma_format: kind.unwrap_or(ChromaFormat::Yuv420),
     }
 }
 
@@ -186,7 +186,7 @@ fn field_vector_of(field: u32, horizontal: i32, vertical: i32) -> FieldVector
             horizontal: horizontal,
             vertical: vertical,
         },
-        reference_field: parity.or_first(),
+        reference_field: parity.unwrap_or(FieldParity::Top),
     }
 }
 
@@ -272,7 +272,7 @@ pub fn fozdrik_predict_frame_macroblock(
         let forward_read = read_reference forward (samples_of forward_y.now forward_cb.now forward_cr.now) in
         let backward_read = read_reference backward (samples_of backward_y.now backward_cb.now backward_cr.now) in
         let prediction = predicted rounded dest.chroma_format forward_read backward_read used mb_col mb_row in
-        out.new ≡ unless_refused result prediction out.old }
+        out.new ≡ unless_number result prediction out.old }
 {
     if !frame_known(
         chroma_format,
@@ -283,7 +283,7 @@ pub fn fozdrik_predict_frame_macroblock(
         forward_motion,
         backward_motion,
     ) {
-        return NO_MEANING as u32;
+        return NO_MEANING;
     }
     number_of(predict_frame_macroblock_planes(
         geometry_of(width, height, chroma_format),
@@ -398,7 +398,7 @@ pub fn fozdrik_predict_field_macroblock(
         let forward_read = read_reference forward (samples_of forward_y.now forward_cb.now forward_cr.now) in
         let backward_read = read_reference backward (samples_of backward_y.now backward_cb.now backward_cr.now) in
         let prediction = predicted rounded dest.chroma_format forward_read backward_read used mb_col mb_row in
-        out.new ≡ unless_refused result prediction out.old }
+        out.new ≡ unless_number result prediction out.old }
 {
     if !field_known(
         chroma_format,
@@ -413,7 +413,7 @@ pub fn fozdrik_predict_field_macroblock(
         backward_top_field,
         backward_bottom_field,
     ) {
-        return NO_MEANING as u32;
+        return NO_MEANING;
     }
     number_of(predict_field_based_macroblock_planes(
         geometry_of(width, height, chroma_format),
