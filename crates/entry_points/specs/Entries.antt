@@ -24,15 +24,11 @@ use Rattle.pmv.specs.declared.vector.VectorComponents.{VectorComponents}
 use Rattle.pmv.specs.declared.update.PmvUpdateContext.{PmvUpdateContext}
 use Rattle.entry_points.specs.Layout.{predictors_of, pair_bytes}
 use Rattle.inter_reconstruction.specs.declared.frames.FrameGeometry.{FrameGeometry}
-use Rattle.inter_reconstruction.specs.declared.frames.ReferenceFrame.{ReferenceFrame}
-use Rattle.inter_reconstruction.specs.declared.frames.ReferenceFrame.TheVariants as Reference
+use Rattle.inter_reconstruction.specs.declared.frames.FrameBuffer.{FrameBuffer}
+use Rattle.inter_reconstruction.specs.declared.motion.MotionVectorPel.{MotionVectorPel}
 use Rattle.inter_reconstruction.specs.declared.motion.FieldVector.{FieldVector}
-use Rattle.inter_reconstruction.specs.declared.motion.FrameDirection.{FrameDirection}
-use Rattle.inter_reconstruction.specs.declared.motion.FrameDirection.TheVariants as Frame
-use Rattle.inter_reconstruction.specs.declared.motion.FieldDirection.{FieldDirection}
-use Rattle.inter_reconstruction.specs.declared.motion.FieldDirection.TheVariants as Field
-use Rattle.inter_reconstruction.specs.declared.motion.FrameMotion.{FrameMotion}
-use Rattle.inter_reconstruction.specs.declared.motion.FieldBasedMotion.{FieldBasedMotion}
+use Rattle.inter_reconstruction.specs.declared.motion.FieldVectorPair.{FieldVectorPair}
+use Rattle.inter_reconstruction.specs.declared.motion.Motion.{Motion}
 
 -- a number that is read has no meaning
 abbrev pub no_meaning : ℕ
@@ -88,32 +84,32 @@ field_known format forward forward_format backward backward_format forward_motio
 unfoldable pub geometry_of : ℕ → ℕ → ℕ → FrameGeometry
 geometry_of w h format = record { width = w; height = h; chroma_format = unwrap_or (chroma_from format) Yuv420 }
 
-unfoldable pub reference_of : ℕ → ℕ → ℕ → ℕ → ℕ → ℕ → ℕ → ℕ → ℕ → ℕ → ReferenceFrame
+unfoldable pub reference_of : ℕ → ℕ → ℕ → ℕ → ℕ → ℕ → ℕ → ℕ → ℕ → ℕ → Option FrameBuffer
 reference_of present w h format yw yh bw bh rw rh =
     cond (is_yes present)
-    (Reference.Present
+    (Some
     (record {
       geometry = geometry_of w h format;
       y = record { width = yw; height = yh };
       cb = record { width = bw; height = bh };
       cr = record { width = rw; height = rh };
     }))
-    Reference.Absent
+    None
 
-unfoldable pub frame_direction_of : ℕ → ℤ → ℤ → FrameDirection
-frame_direction_of present h v = cond (is_yes present) (Frame.Present (record { horizontal = h; vertical = v })) Frame.Absent
+unfoldable pub frame_direction_of : ℕ → ℤ → ℤ → Option MotionVectorPel
+frame_direction_of present h v = cond (is_yes present) (Some (record { horizontal = h; vertical = v })) None
 
 unfoldable pub field_vector_of : ℕ → ℤ → ℤ → FieldVector
 field_vector_of parity h v = record { vector = record { horizontal = h; vertical = v }; reference_field = unwrap_or (parity_from parity) Top }
 
-unfoldable pub field_direction_of : ℕ → ℕ → ℤ → ℤ → ℕ → ℤ → ℤ → FieldDirection
+unfoldable pub field_direction_of : ℕ → ℕ → ℤ → ℤ → ℕ → ℤ → ℤ → Option FieldVectorPair
 field_direction_of present tf th tv bf bh bv =
-    cond (is_yes present) (Field.Present (record { top = field_vector_of tf th tv; bottom = field_vector_of bf bh bv })) Field.Absent
+    cond (is_yes present) (Some (record { top = field_vector_of tf th tv; bottom = field_vector_of bf bh bv })) None
 
-abbrev pub frame_motion_of : ℕ → ℤ → ℤ → ℕ → ℤ → ℤ → FrameMotion
+abbrev pub frame_motion_of : ℕ → ℤ → ℤ → ℕ → ℤ → ℤ → Motion MotionVectorPel
 frame_motion_of fp fh fv bp bh bv = record { forward = frame_direction_of fp fh fv; backward = frame_direction_of bp bh bv }
 
-abbrev pub field_motion_of : ℕ → ℕ → ℤ → ℤ → ℕ → ℤ → ℤ → ℕ → ℕ → ℤ → ℤ → ℕ → ℤ → ℤ → FieldBasedMotion
+abbrev pub field_motion_of : ℕ → ℕ → ℤ → ℤ → ℕ → ℤ → ℤ → ℕ → ℕ → ℤ → ℤ → ℕ → ℤ → ℤ → Motion FieldVectorPair
 field_motion_of fp ftf fth ftv fbf fbh fbv bp btf bth btv bbf bbh bbv =
     record { forward = field_direction_of fp ftf fth ftv fbf fbh fbv; backward = field_direction_of bp btf bth btv bbf bbh bbv }
 

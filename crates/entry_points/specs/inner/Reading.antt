@@ -5,6 +5,10 @@ use Rattle.pmv.specs.declared.kinds.NoMeaning.{NoMeaning}
 use Rattle.pmv.specs.declared.kinds.PredictionType.{PredictionType}
 use Rattle.entry_points.specs.Entries.{presence_known, vector_known, residual_of, type_of, index_of, direction_of, format_of, structure_of, motion_vector_of}
 use Rattle.entry_points.specs.declared.vectors.VectorRead.{VectorRead}
+use Rattle.entry_points.specs.declared.prediction.PredictionRead.{PredictionRead}
+use Rattle.inter_reconstruction.specs.declared.frames.FrameGeometry.{FrameGeometry}
+use Rattle.inter_reconstruction.specs.declared.frames.FrameBuffer.{FrameBuffer}
+use Rattle.inter_reconstruction.specs.declared.motion.Motion.{Motion}
 
 abbrev pub read_where : {A : Type 0} → Bool → A → Result A NoMeaning
 read_where true value = Ok value
@@ -25,3 +29,7 @@ vector_meant r s ch hp hr cv vp vr format structure =
       format = format_of format;
       structure = structure_of structure;
     }
+
+-- what a prediction is read with
+abbrev pub prediction_meant : {V : Type 0} → FrameGeometry → Option FrameBuffer → Option FrameBuffer → Motion V → PredictionRead V
+prediction_meant dest forward backward motion = record { dest = dest; forward = forward; backward = backward; motion = motion }
