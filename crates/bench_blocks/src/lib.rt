@@ -4,7 +4,7 @@
 
 ghost use Rattle.std.specs.Prelude.{◌≡◌, length};
 ghost use Rattle.std.specs.Result.{result_err};
-ghost use Rattle.combine_predictions.specs.Refusals.{code, unless_refused};
+ghost use Rattle.combine_predictions.specs.Refusals.{refusal_number, unless_refused};
 ghost use Rattle.forming_predictions.specs.Lines.{sample_at};
 ghost use Rattle.forming_predictions.specs.Means.{rounded};
 ghost use Rattle.forming_predictions.specs.Forming.{predicted_block};
@@ -15,7 +15,7 @@ use forming_predictions::{BlockSize, FieldParity, FieldReference, FormingRefusal
 
 /// 0, or the number of the refusal.
 fn code_of(answer: Result<(), FormingRefusal>) -> u32
-    ensures { result ≡ code forming_number (result_err answer) }
+    ensures { result ≡ refusal_number forming_number (result_err answer) }
 {
     match answer {
         Ok(()) => 0,
@@ -47,7 +47,7 @@ pub extern "C" fn fozdrik_bench_block(
     vertical: i32,
     out: &mut [u8],
 ) -> u32
-    ensures number { result ≡ code forming_number (block_refusal width height (length samples.now) x y block_width block_height (length out.old)) }
+    ensures number { result ≡ refusal_number forming_number (block_refusal width height (length samples.now) x y block_width block_height (length out.old)) }
     ensures buffer { out.new ≡ unless_refused (block_refusal width height (length samples.now) x y block_width block_height (length out.old)) (predicted_block rounded (sample_at (lines_of from) width height samples.now) block_width block_height x y horizontal vertical) out.old }
 {
     let plane = ReferencePlane {

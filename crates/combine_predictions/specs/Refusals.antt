@@ -36,7 +36,7 @@ abbrev pub unless_refused : {R A : Type 0} → Option R → A → A → A
 unless_refused None written kept = written
 unless_refused (Some r) written kept = kept
 
--- what C is told: the number of the refusal, and 0 for none
-abbrev pub code : {R : Type 0} → (R → ℕ) → Option R → ℕ
-code number None = 0
-code number (Some r) = number r
+-- the number of a refusal, and 0 for none: what C is told
+abbrev pub refusal_number : {R : Type 0} → (R → ℕ) → Option R → ℕ
+refusal_number number None = 0
+refusal_number number (Some r) = number r

@@ -11,12 +11,12 @@ use borrow.Author.Tests.{eqb-true}
 use Rattle.laws.proofs.Tests.{both}
 use Rattle.std.specs.Prelude.{Option, Some, None, Result, is_some}
 use Rattle.std.specs.Result.{result_err}
-use Rattle.combine_predictions.specs.Refusals.{answered, unless_refused}
+use Rattle.combine_predictions.specs.Refusals.{refusal_number, answered, unless_refused}
 use Rattle.pmv.specs.Refusals.{update_number}
 use Rattle.pmv.specs.Update.{update_refusal, update_outcome, outcome_number, after, updated}
 use Rattle.pmv.specs.Kinds.{flag_from, index_from, direction_from, format_from, structure_from, type_from}
 use Rattle.entry_points.specs.Layout.{predictors_of, predictor_bytes}
-use Rattle.entry_points.specs.Entries.{presence_known, vector_known, update_known, refusal_number, unless_number}
+use Rattle.entry_points.specs.Entries.{presence_known, vector_known, update_known, unless_number}
 use Rattle.entry_points.specs.inner.Outcomes.{outcome_byte}
 use Rattle.entry_points.proofs.ReadBack.{bytes_read_back}
 use Rattle.pmv.specs.declared.predictors.Pmv.{Pmv}

@@ -2,6 +2,7 @@
 -- and 1; any other number that is read is refused before all else. What is absent has a 0 beside it, and its other numbers are not read.
 -- Nothing here is the standard's, whose codes are mostly others.
 use Rattle.std.specs.Prelude.{Bool, false, not, ◌&&◌, ◌||◌, cond, List, ℕ, zero, suc, eqb, ℤ, Option, Some, None, is_some, unwrap_or, Result, Ok, Err}
+use Rattle.combine_predictions.specs.Refusals.{refusal_number}
 use Rattle.forming_predictions.specs.declared.FieldParity.TheVariants.{Top}
 use Rattle.pmv.specs.Kinds.{flag_from, chroma_from, parity_from, index_from, direction_from, format_from, structure_from, type_from}
 use Rattle.pmv.specs.Predictors.{pair_of}
@@ -33,11 +34,6 @@ use Rattle.inter_reconstruction.specs.declared.motion.Motion.{Motion}
 -- a number that is read has no meaning
 abbrev pub no_meaning : ℕ
 no_meaning = 38
-
--- 0, or the number of the refusal
-abbrev pub refusal_number : {R : Type 0} → (R → ℕ) → Option R → ℕ
-refusal_number number None = 0
-refusal_number number (Some r) = number r
 
 -- what a call answers: 38 unless all that is read is known, and then that
 abbrev pub call_number : {R : Type 0} → (R → ℕ) → Bool → Option R → ℕ

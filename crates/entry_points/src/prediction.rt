@@ -1,14 +1,14 @@
 //! The card's C entry points for prediction. Kinds and flags are numbers; what is absent has a 0 beside it, and its other numbers are not read.
 ghost use Rattle.std.specs.Prelude.{◌≡◌, length, is_some};
 ghost use Rattle.std.specs.Result.{result_err};
-ghost use Rattle.combine_predictions.specs.Refusals.{unless_refused};
+ghost use Rattle.combine_predictions.specs.Refusals.{refusal_number, unless_refused};
 ghost use Rattle.forming_predictions.specs.Means.{rounded};
 ghost use Rattle.pmv.specs.Kinds.{flag_from, chroma_from, parity_from};
 ghost use Rattle.inter_reconstruction.specs.Motion.{uses_by, frame_uses, field_uses};
 ghost use Rattle.inter_reconstruction.specs.Frames.{samples_of, lengths_of, read_reference};
 ghost use Rattle.inter_reconstruction.specs.Macroblock.{predicted};
 ghost use Rattle.inter_reconstruction.specs.Refusals.{prediction_number, prediction_refusal};
-ghost use Rattle.entry_points.specs.Entries.{refusal_number, call_number, unless_number, reference_known, fields_known, frame_known, field_known, geometry_of, reference_of, frame_direction_of, field_vector_of, field_direction_of, frame_motion_of, field_motion_of};
+ghost use Rattle.entry_points.specs.Entries.{call_number, unless_number, reference_known, fields_known, frame_known, field_known, geometry_of, reference_of, frame_direction_of, field_vector_of, field_direction_of, frame_motion_of, field_motion_of};
 ghost use Rattle.entry_points.specs.inner.Reading.{read_where, prediction_meant};
 
 use forming_predictions::ReferencePlane;

@@ -1,11 +1,12 @@
 //! The card's C entry points for vectors and predictors, on numbers and bytes.
+ghost use Rattle.combine_predictions.specs.Refusals.{refusal_number};
 ghost use Rattle.std.specs.Prelude.{◌≡◌, cond, ◌++◌, [], ◌∷◌, ◌+◌, ◌<◌, ◌≤◌, length, eqb, ◌&&◌};
 ghost use Rattle.std.specs.Result.{result_err};
 ghost use Rattle.pmv.specs.Predictors.{pair_of};
 ghost use Rattle.pmv.specs.Refusals.{vector_number, update_number};
 ghost use Rattle.pmv.specs.Update.{update_refusal, update_outcome, outcome_number, updated};
 ghost use Rattle.entry_points.specs.Layout.{word_of, signed_of, bytes_of, number_at, pair_bytes, predictors_of, predictor_bytes, with_pair};
-ghost use Rattle.entry_points.specs.Entries.{refusal_number, call_number, unless_number, vector_known, update_known, index_of, direction_of, format_of, structure_of, motion_vector_of, context_of, vector_from, vector_bytes};
+ghost use Rattle.entry_points.specs.Entries.{call_number, unless_number, vector_known, update_known, index_of, direction_of, format_of, structure_of, motion_vector_of, context_of, vector_from, vector_bytes};
 ghost use Rattle.entry_points.specs.inner.Outcomes.{outcome_byte};
 ghost use Rattle.entry_points.specs.inner.Reading.{read_where, residual_read, type_read, vector_meant};
 

@@ -1,17 +1,17 @@
 -- The worked cases of docs/SCOPE.md, of all layers, in its order and nearly in its words: the table at the end, to be held beside it, and the
 -- single claim that all of them hold by the definitions, which are the standard's where it has some. `number_of_cases` promises it.
-use Rattle.std.specs.Prelude.{◌≡◌, Bool, true, false, List, [], ◌∷◌, ◌++◌, ℕ, zero, suc, ℤ, pos, negsuc, length}
+use Rattle.std.specs.Prelude.{◌≡◌, Bool, true, false, List, [], ◌∷◌, ◌++◌, ℕ, zero, suc, ℤ, pos, negsuc, length, Option, Some, None}
 use Rattle.laws.specs.All.{All}
 use Rattle.combine_predictions.specs.Averaging.{mean2}
+use Rattle.combine_predictions.specs.Refusals.{refusal_number}
 use Rattle.forming_predictions.specs.Splitting.{floor_half, half_flag}
 use Rattle.forming_predictions.specs.Lines.{frame, field, field_lines, sample_at}
 use Rattle.forming_predictions.specs.Means.{mean4, rounded}
 use Rattle.forming_predictions.specs.Forming.{formed}
 use Rattle.forming_predictions.specs.declared.FieldParity.TheVariants.{Bottom}
+use Rattle.pmv.specs.Refusals.{vector_number}
 use Rattle.pmv.specs.Component.{halves, component_of, component_refusal}
 use Rattle.pmv.specs.Chroma.{chroma_horizontal, chroma_vertical}
-use Rattle.pmv.specs.declared.component.MotionResidual.{MotionResidual}
-use Rattle.pmv.specs.declared.component.MotionResidual.TheVariants.{Absent, Present}
 use Rattle.pmv.specs.declared.component.ReconstructedComponent.{ReconstructedComponent}
 use Rattle.pmv.specs.declared.kinds.ChromaFormat.{ChromaFormat}
 use Rattle.pmv.specs.declared.kinds.ChromaFormat.TheVariants.{Yuv420, Yuv422, Yuv444}
@@ -48,17 +48,17 @@ plane_with_rows r s = record { width = length r; height = 2; samples = r ++ s }
 pub record Input : Type 0 where
   pub f_code : ℕ
   pub motion_code : ℤ
-  pub motion_residual : MotionResidual
+  pub motion_residual : Option ℕ
   pub predictor : ℤ
   pub halved : Bool
 
 -- of vectors that are not halved, whatever their kind
 abbrev pub f_code◌code◌residual◌prior◌ : ℕ → ℤ → ℕ → ℤ → Input
 f_code n code c residual r prior p =
-    record { f_code = n; motion_code = c; motion_residual = Present r; predictor = p; halved = false }
+    record { f_code = n; motion_code = c; motion_residual = Some r; predictor = p; halved = false }
 
 abbrev pub f_code◌code◌prior◌ : ℕ → ℤ → ℤ → Input
-f_code n code c prior p = record { f_code = n; motion_code = c; motion_residual = Absent; predictor = p; halved = false }
+f_code n code c prior p = record { f_code = n; motion_code = c; motion_residual = None; predictor = p; halved = false }
 
 abbrev pub f_code◌code◌any_prior : ℕ → ℤ → ℤ → Input
 f_code n code c any_prior = λ (p : ℤ). f_code n code c prior p
@@ -73,8 +73,9 @@ vertical_field_vector_in_frame_picture i =
       halved = halves MvFormat.Field PictureStructure.Frame Vertical;
     }
 
+-- the number of its refusal, 0 for none
 abbrev pub refusal_of : Input → ℕ
-refusal_of i = component_refusal i.f_code i.motion_code i.motion_residual i.predictor i.halved
+refusal_of i = refusal_number vector_number (component_refusal i.f_code i.motion_code i.motion_residual i.predictor i.halved)
 
 -- vector, new predictor, delta and range of a component that is not refused
 abbrev pub answer_of : Input → ReconstructedComponent

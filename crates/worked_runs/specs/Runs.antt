@@ -1,15 +1,12 @@
 -- Runs of the drift figure that are computed on both sides, by the calls and with every mean exact: two meet the figure, above and below, so that it
 -- cannot be made smaller; a third has field-based prediction and refused steps. docs/SCOPE.md, "The drift figure". Nothing here is the standard's.
-use Rattle.std.specs.Prelude.{◌≡◌, List, [], ◌∷◌, ◌++◌, ℕ, zero, suc, ◌+◌, ◌-◌, ◌*◌, ◌/◌, ◌%◌, ◌^◌, ◌≤◌, pos, negsuc, get_or, replicate}
-use Rattle.std.proofs.Math.Option.{none, some}
+use Rattle.std.specs.Prelude.{◌≡◌, List, [], ◌∷◌, ◌++◌, ℕ, zero, suc, ◌+◌, ◌-◌, ◌*◌, ◌/◌, ◌%◌, ◌^◌, ◌≤◌, pos, negsuc, get_or, replicate, Some, None}
 use Rattle.laws.specs.All.{All}
 use Rattle.laws.specs.Tabulate.{tabulate}
 use Rattle.forming_predictions.specs.declared.FieldParity.TheVariants.{Top, Bottom}
 use Rattle.pmv.specs.declared.kinds.ChromaFormat.TheVariants.{Yuv420}
 use Rattle.inter_reconstruction.specs.Components.{ColourComponent, luma, cb, cr}
 use Rattle.inter_reconstruction.specs.declared.frames.FrameGeometry.{FrameGeometry}
-use Rattle.inter_reconstruction.specs.declared.motion.FrameDirection.TheVariants as Frame
-use Rattle.inter_reconstruction.specs.declared.motion.FieldDirection.TheVariants as Field
 use Rattle.inter_reconstruction.specs.declared.motion.FieldVectorPair.{FieldVectorPair}
 use Rattle.drift.specs.Steps.{Step, frame_based, field_based, Pictures, after_steps}
 use Rattle.drift.specs.Unrounded.{table_refusal, after_unrounded_steps, in_units}
@@ -56,15 +53,15 @@ abbrev pub brighter : ℕ → Step
 brighter n =
     record {
       target = n;
-      forward = some (n - 1);
-      backward = some (n - 1);
+      forward = Some (n - 1);
+      backward = Some (n - 1);
       column = 0;
       row = 0;
       motion =
           frame_based
           (record {
-            forward = Frame.Present (record { horizontal = pos 0; vertical = pos 1 });
-            backward = Frame.Present (record { horizontal = pos 0; vertical = negsuc 0 });
+            forward = Some (record { horizontal = pos 0; vertical = pos 1 });
+            backward = Some (record { horizontal = pos 0; vertical = negsuc 0 });
           });
     }
 
@@ -86,11 +83,11 @@ abbrev pub unchanged : ℕ → Step
 unchanged n =
     record {
       target = n;
-      forward = some (n - 1);
-      backward = none;
+      forward = Some (n - 1);
+      backward = None;
       column = 0;
       row = 0;
-      motion = frame_based (record { forward = Frame.Present (record { horizontal = pos 1; vertical = pos 1 }); backward = Frame.Absent });
+      motion = frame_based (record { forward = Some (record { horizontal = pos 1; vertical = pos 1 }); backward = None });
     }
 
 -- at column 3 and row 1
@@ -123,22 +120,22 @@ abbrev pub mixed : Step
 mixed =
     record {
       target = 2;
-      forward = some 0;
-      backward = some 1;
+      forward = Some 0;
+      backward = Some 1;
       column = 0;
       row = 0;
-      motion = field_based (record { forward = Field.Present there; backward = Field.Present back });
+      motion = field_based (record { forward = Some there; backward = Some back });
     }
 
 -- motion in both directions and neither reference; a cell outside the picture
 abbrev pub missing : Step
-missing = record { target = 2; forward = none; backward = none; column = 0; row = 0; motion = mixed.motion }
+missing = record { target = 2; forward = None; backward = None; column = 0; row = 0; motion = mixed.motion }
 
 abbrev pub outside : Step
-outside = record { target = 2; forward = some 0; backward = some 1; column = 1; row = 0; motion = mixed.motion }
+outside = record { target = 2; forward = Some 0; backward = Some 1; column = 1; row = 0; motion = mixed.motion }
 
 abbrev pub Refused : Type 0
-Refused = (table_refusal g mixed ≡ 0) × (table_refusal g missing ≡ 16) × (table_refusal g outside ≡ 20)
+Refused = (table_refusal g mixed ≡ None) × (table_refusal g missing ≡ Some 16) × (table_refusal g outside ≡ Some 20)
 
 abbrev pub steps : List Step
 steps = missing ∷ brighter 1 ∷ mixed ∷ outside ∷ unchanged 1 ∷ missing ∷ []

@@ -1,7 +1,7 @@
 -- Cases of single steps, by the calls and with every mean exact. The cell's column is not its row, the two references are not one picture, and all
 -- samples differ: a definition that takes one for the other leaves another number. docs/SCOPE.md, "The drift figure". Nothing here is the standard's.
-use Rattle.std.specs.Prelude.{◌≡◌, List, [], ◌∷◌, ℕ, ◌+◌, ◌*◌, ℤ, pos, negsuc, get_or}
-use Rattle.std.proofs.Math.Option.{Option, none, some}
+use Rattle.std.specs.Prelude.{◌≡◌, List, [], ◌∷◌, ℕ, ◌+◌, ◌*◌, ℤ, pos, negsuc, get_or, Option, Some, None, unwrap_or}
+use Rattle.combine_predictions.specs.Refusals.{refusal_number}
 use Rattle.laws.specs.All.{All}
 use Rattle.laws.specs.Tabulate.{tabulate}
 use Rattle.forming_predictions.specs.declared.FieldParity.{FieldParity}
@@ -9,11 +9,11 @@ use Rattle.forming_predictions.specs.declared.FieldParity.TheVariants.{Top, Bott
 use Rattle.pmv.specs.declared.kinds.ChromaFormat.TheVariants.{Yuv420, Yuv422}
 use Rattle.inter_reconstruction.specs.Components.{ColourComponent, luma, cb, cr}
 use Rattle.inter_reconstruction.specs.declared.frames.FrameGeometry.{FrameGeometry}
-use Rattle.inter_reconstruction.specs.declared.motion.FrameDirection.{FrameDirection}
-use Rattle.inter_reconstruction.specs.declared.motion.FrameDirection.TheVariants.{Absent, Present}
+use Rattle.inter_reconstruction.specs.Refusals.{prediction_number}
+use Rattle.inter_reconstruction.specs.Placing.{placing_number}
+use Rattle.inter_reconstruction.specs.declared.motion.MotionVectorPel.{MotionVectorPel}
 use Rattle.inter_reconstruction.specs.declared.motion.FieldVector.{FieldVector}
-use Rattle.inter_reconstruction.specs.declared.motion.FieldDirection.{FieldDirection}
-use Rattle.inter_reconstruction.specs.declared.motion.FieldDirection.TheVariants as Field
+use Rattle.inter_reconstruction.specs.declared.motion.FieldVectorPair.{FieldVectorPair}
 use Rattle.drift.specs.Steps.{Step, frame_based, field_based, Pictures, step_prediction_refusal, step_placing_refusal, after_steps}
 use Rattle.drift.specs.Unrounded.{table_refusal, fitting_lengths, after_unrounded_steps, in_units}
 
@@ -37,17 +37,17 @@ numbered g n cr = tabulate (fitting_lengths g cr) (λ (i : ℕ). 4001 * n + 2000
 
 -- ---- the steps: picture n's cell, predicted from the forward and the backward reference
 
-abbrev pub step : ℕ → Option ℕ → Option ℕ → ℕ → ℕ → FrameDirection → FrameDirection → Step
+abbrev pub step : ℕ → Option ℕ → Option ℕ → ℕ → ℕ → Option MotionVectorPel → Option MotionVectorPel → Step
 step n f b x y df db =
     record { target = n; forward = f; backward = b; column = x; row = y; motion = frame_based (record { forward = df; backward = db }) }
 
-abbrev pub field_step : ℕ → Option ℕ → Option ℕ → ℕ → ℕ → FieldDirection → FieldDirection → Step
+abbrev pub field_step : ℕ → Option ℕ → Option ℕ → ℕ → ℕ → Option FieldVectorPair → Option FieldVectorPair → Step
 field_step n f b x y df db =
     record { target = n; forward = f; backward = b; column = x; row = y; motion = field_based (record { forward = df; backward = db }) }
 
 -- by vectors of 0
-abbrev pub still : FrameDirection
-still = Present (record { horizontal = pos 0; vertical = pos 0 })
+abbrev pub still : Option MotionVectorPel
+still = Some (record { horizontal = pos 0; vertical = pos 0 })
 
 -- a field's vector, and the field that it reads
 abbrev pub by : ℤ → ℤ → FieldParity → FieldVector
@@ -55,11 +55,11 @@ by horizontal vertical parity = record { vector = record { horizontal = horizont
 
 -- two pairs of vectors, no two alike: in half samples of the luminance (2, 3) and (-3, -5), (-1, 4) and (5, -2). In the first each field reads the
 -- other one, in the second both read the bottom field
-abbrev pub crossing : FieldDirection
-crossing = Field.Present (record { top = by (pos 2) (pos 3) Bottom; bottom = by (negsuc 2) (negsuc 4) Top })
+abbrev pub crossing : Option FieldVectorPair
+crossing = Some (record { top = by (pos 2) (pos 3) Bottom; bottom = by (negsuc 2) (negsuc 4) Top })
 
-abbrev pub bottoms : FieldDirection
-bottoms = Field.Present (record { top = by (negsuc 0) (pos 4) Bottom; bottom = by (pos 5) (negsuc 1) Bottom })
+abbrev pub bottoms : Option FieldVectorPair
+bottoms = Some (record { top = by (negsuc 0) (pos 4) Bottom; bottom = by (pos 5) (negsuc 1) Bottom })
 
 -- ---- what steps leave at index i of picture n: the sample, and the unrounded number, in units of which a grey step has 8 to the power n
 
@@ -85,14 +85,14 @@ left g steps n c i sample unrounded = record { g = g; steps = steps; n = n; c = 
 -- one; and the lower of two macroblocks
 abbrev pub copies : List Left
 copies =
-    left wide (step 1 (some 0) none 1 0 Absent Absent ∷ []) 1 luma 511 511 (8 * 511)
-    ∷ left wide (step 2 none (some 0) 1 0 Absent still ∷ []) 2 cr 255 2255 (64 * 2255)
-    ∷ left wide (step 1 (some 0) none 1 0 Absent Absent ∷ step 2 (some 1) none 1 0 still Absent ∷ []) 2 cb 255 1255 (64 * 1255)
-    ∷ left wide (step 2 (some 0) (some 1) 1 0 still still ∷ []) 2 cb 255 3256 (32 * (1255 + 5256))
-    ∷ left wide (step 2 (some 0) none 1 0 still still ∷ []) 2 cb 255 1255 (64 * 1255)
-    ∷ left wide (step 2 none (some 0) 1 0 still still ∷ []) 2 cr 255 2255 (64 * 2255)
-    ∷ left high (step 1 (some 0) none 0 1 Absent Absent ∷ []) 1 cb 127 1127 (8 * 1127)
-    ∷ left high (step 2 (some 0) (some 1) 0 1 still still ∷ []) 2 cr 127 4128 (32 * (2127 + 6128))
+    left wide (step 1 (Some 0) None 1 0 None None ∷ []) 1 luma 511 511 (8 * 511)
+    ∷ left wide (step 2 None (Some 0) 1 0 None still ∷ []) 2 cr 255 2255 (64 * 2255)
+    ∷ left wide (step 1 (Some 0) None 1 0 None None ∷ step 2 (Some 1) None 1 0 still None ∷ []) 2 cb 255 1255 (64 * 1255)
+    ∷ left wide (step 2 (Some 0) (Some 1) 1 0 still still ∷ []) 2 cb 255 3256 (32 * (1255 + 5256))
+    ∷ left wide (step 2 (Some 0) None 1 0 still still ∷ []) 2 cb 255 1255 (64 * 1255)
+    ∷ left wide (step 2 None (Some 0) 1 0 still still ∷ []) 2 cr 255 2255 (64 * 2255)
+    ∷ left high (step 1 (Some 0) None 0 1 None None ∷ []) 1 cb 127 1127 (8 * 1127)
+    ∷ left high (step 2 (Some 0) (Some 1) 0 1 still still ∷ []) 2 cr 127 4128 (32 * (2127 + 6128))
     ∷ []
 
 -- field-based steps from both references, in odd rows by the bottom fields' vectors, and in row 8 of the last by the top fields'. A sample's
@@ -102,17 +102,17 @@ copies =
 abbrev pub by_fields : List Left
 by_fields =
     -- row 31 and column 9 of the luminance; row 11 of Cb and row 15 of Cr, by (-1, -2) and (2, -1)
-    left high (field_step 2 (some 0) (some 1) 0 1 crossing bottoms ∷ []) 2 luma 505 2443 (8 * (391 + 392 + 423 + 424 + 2 * (4476 + 4477)))
-    ∷ left high (field_step 2 (some 0) (some 1) 0 1 crossing bottoms ∷ []) 2 cb 92 3077 (8 * (2 * (1067 + 1068) + 2 * (5078 + 5094)))
-    ∷ left high (field_step 2 (some 0) (some 1) 0 1 crossing bottoms ∷ []) 2 cr 125 4110 (8 * (2 * (2100 + 2101) + 2 * (6111 + 6127)))
+    left high (field_step 2 (Some 0) (Some 1) 0 1 crossing bottoms ∷ []) 2 luma 505 2443 (8 * (391 + 392 + 423 + 424 + 2 * (4476 + 4477)))
+    ∷ left high (field_step 2 (Some 0) (Some 1) 0 1 crossing bottoms ∷ []) 2 cb 92 3077 (8 * (2 * (1067 + 1068) + 2 * (5078 + 5094)))
+    ∷ left high (field_step 2 (Some 0) (Some 1) 0 1 crossing bottoms ∷ []) 2 cr 125 4110 (8 * (2 * (2100 + 2101) + 2 * (6111 + 6127)))
     -- row 8 of Cb in 4:2:2, by (1, 3) and (0, 4)
-    ∷ left wide (field_step 2 (some 0) (some 1) 1 0 crossing bottoms ∷ []) 2 cb 140 3213 (8 * (1188 + 1189 + 1220 + 1221 + 4 * 5221))
+    ∷ left wide (field_step 2 (Some 0) (Some 1) 1 0 crossing bottoms ∷ []) 2 cb 140 3213 (8 * (1188 + 1189 + 1220 + 1221 + 4 * 5221))
     -- of both directions one reference, by its own pair of vectors: the sample of the first row, forward alone and backward alone
-    ∷ left high (field_step 2 (some 0) none 0 1 crossing bottoms ∷ []) 2 luma 505 408 (2 * 8 * (391 + 392 + 423 + 424))
-    ∷ left high (field_step 2 none (some 1) 0 1 crossing bottoms ∷ []) 2 luma 505 4477 (2 * 8 * (2 * (4476 + 4477)))
+    ∷ left high (field_step 2 (Some 0) None 0 1 crossing bottoms ∷ []) 2 luma 505 408 (2 * 8 * (391 + 392 + 423 + 424))
+    ∷ left high (field_step 2 None (Some 1) 0 1 crossing bottoms ∷ []) 2 luma 505 4477 (2 * 8 * (2 * (4476 + 4477)))
     ∷ []
 
--- ---- what is refused in the wide pictures: by the table, by the prediction and by placing
+-- ---- what is refused in the wide pictures, by its number, 0 for nothing: by the table, by the prediction and by placing
 
 pub record Refused : Type 0 where
   pub step : Step
@@ -122,9 +122,9 @@ pub record Refused : Type 0 where
 
 abbrev pub Refuses : Refused → Type 0
 Refuses r =
-    (table_refusal wide r.step ≡ r.table)
-    × (step_prediction_refusal wide r.step (numbered wide) ≡ r.predicting)
-    × (step_placing_refusal wide r.step (numbered wide) ≡ r.placing)
+    (unwrap_or (table_refusal wide r.step) 0 ≡ r.table)
+    × (refusal_number prediction_number (step_prediction_refusal wide r.step (numbered wide)) ≡ r.predicting)
+    × (refusal_number placing_number (step_placing_refusal wide r.step (numbered wide)) ≡ r.placing)
 
 abbrev pub refused : Step → ℕ → ℕ → ℕ → Refused
 refused s table predicting placing = record { step = s; table = table; predicting = predicting; placing = placing }
@@ -133,15 +133,15 @@ refused s table predicting placing = record { step = s; table = table; predictin
 -- outside the picture
 abbrev pub refusals : List Refused
 refusals =
-    refused (step 2 none (some 1) 0 0 Absent Absent) 16 16 0
-    ∷ refused (step 2 (some 0) none 0 0 Absent still) 17 17 0
-    ∷ refused (step 2 none none 0 0 still still) 16 16 0
-    ∷ refused (step 2 (some 0) none 0 0 still still) 0 0 0
-    ∷ refused (step 2 none (some 1) 0 0 still still) 0 0 0
-    ∷ refused (step 2 (some 0) (some 1) 1024 0 Absent Absent) 13 13 20
-    ∷ refused (step 2 (some 0) (some 1) 0 1024 Absent Absent) 13 13 20
-    ∷ refused (step 2 (some 0) (some 1) 2 0 still still) 20 0 20
-    ∷ refused (step 2 (some 0) (some 1) 1 1 still still) 20 0 20
+    refused (step 2 None (Some 1) 0 0 None None) 16 16 0
+    ∷ refused (step 2 (Some 0) None 0 0 None still) 17 17 0
+    ∷ refused (step 2 None None 0 0 still still) 16 16 0
+    ∷ refused (step 2 (Some 0) None 0 0 still still) 0 0 0
+    ∷ refused (step 2 None (Some 1) 0 0 still still) 0 0 0
+    ∷ refused (step 2 (Some 0) (Some 1) 1024 0 None None) 13 13 20
+    ∷ refused (step 2 (Some 0) (Some 1) 0 1024 None None) 13 13 20
+    ∷ refused (step 2 (Some 0) (Some 1) 2 0 still still) 20 0 20
+    ∷ refused (step 2 (Some 0) (Some 1) 1 1 still still) 20 0 20
     ∷ []
 
 -- ---- what is claimed: every row of the three lists

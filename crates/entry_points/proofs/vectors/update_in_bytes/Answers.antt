@@ -1,10 +1,11 @@
 -- Where the update is refused, the predictors that are written are those that were read.
 -- Assumes nothing.
+use Rattle.combine_predictions.specs.Refusals.{refusal_number}
 use Rattle.std.proofs.Common.{ap, ◌∙◌, rules}
 use Rattle.pmv.specs.Refusals.{update_number}
 use Rattle.pmv.specs.Update.{update_refusal}
 use Rattle.pmv.specs.declared.update.PredictorUpdate.{PredictorUpdate}
-use Rattle.entry_points.specs.Entries.{refusal_number, unless_number}
+use Rattle.entry_points.specs.Entries.{unless_number}
 use Rattle.entry_points.specs.Layout.{predictor_bytes}
 use Rattle.entry_points.proofs.Updates.{updated_left}
 use Rattle.entry_points.proofs.vectors.update_in_bytes.Goals as goal
