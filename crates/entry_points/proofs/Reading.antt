@@ -1,30 +1,17 @@
--- What a call's numbers that were read say of those that have a meaning.
+-- What a number's reading says of its meaning.
 -- Assumes nothing.
-use mathlib.Core.Path.{◌≡◌, refl, sym, ap}
-use mathlib.Core.Bool.{Bool, true, false, not, ◌&&◌, ◌||◌}
-use Rattle.std.specs.Prelude.{Option, Some, None, Result, Ok, Err, ok_or}
-use Rattle.std.specs.Result.{result_ok}
+use mathlib.Core.Path.{◌≡◌, refl}
+use mathlib.Core.Bool.{Bool}
+use Rattle.std.specs.Prelude.{Option, Some, None, Result, is_some, is_ok, ok_or, unwrap_or}
+use Rattle.std.specs.Result.{result_unwrap_or}
+use Rattle.pmv.specs.Kinds.{no_meaning}
 use Rattle.pmv.specs.declared.kinds.NoMeaning.{NoMeaning}
-use Rattle.entry_points.specs.inner.Reading.{read_where}
 
-pub read_some : {A : Type 0} (o : Option A) {e : NoMeaning} {x : A} → Ok x ≡ ok_or o e → o ≡ Some x
-read_some None p = absurd cc
-read_some (Some y) p = sym (ap result_ok p)
+pub read_known : {A : Type 0} (o : Option A) {r : Result A NoMeaning} {b : Bool} → r ≡ ok_or o no_meaning → b ≡ is_ok r → b ≡ is_some o
+read_known None q p = rw q at p
+read_known (Some x) q p = rw q at p
 
-pub read_none : {A : Type 0} (o : Option A) {e f : NoMeaning} → Err f ≡ ok_or o e → o ≡ None
-read_none None p = refl
-read_none (Some y) p = absurd cc
-
-pub read_known : {A : Type 0} (b : Bool) (v : A) {x : A} → Ok x ≡ read_where b v → (b ≡ true) × (x ≡ v)
-read_known true v p = (refl, cc)
-read_known false v p = absurd cc
-
-pub lengths_right : (a b : Bool) → (not a || not b) ≡ false → (a ≡ true) × (b ≡ true)
-lengths_right true true e = (refl, refl)
-lengths_right true false e = absurd cc
-lengths_right false b e = absurd cc
-
-pub length_wrong : (a b : Bool) → (not a || not b) ≡ true → (a && b) ≡ false
-length_wrong true true e = absurd cc
-length_wrong true false e = refl
-length_wrong false b e = refl
+pub read_value : {A : Type 0} (o : Option A) (d : A) {r : Result A NoMeaning} {x : A}
+    → x ≡ result_unwrap_or r d → r ≡ ok_or o no_meaning → x ≡ unwrap_or o d
+read_value None d p q = rw q at p
+read_value (Some y) d p q = rw q at p
