@@ -1,11 +1,12 @@
 -- What a number's reading says of its meaning.
 -- Assumes nothing.
 use mathlib.Core.Path.{◌≡◌, refl}
-use mathlib.Core.Bool.{Bool}
-use Rattle.std.specs.Prelude.{Option, Some, None, Result, is_some, is_ok, ok_or, unwrap_or}
+use mathlib.Core.Bool.{Bool, true, false}
+use Rattle.std.specs.Prelude.{Option, Some, None, Result, Ok, Err, is_some, is_ok, ok_or, unwrap_or}
 use Rattle.std.specs.Result.{result_unwrap_or}
 use Rattle.pmv.specs.Kinds.{no_meaning}
 use Rattle.pmv.specs.declared.kinds.NoMeaning.{NoMeaning}
+use Rattle.entry_points.specs.inner.Reading.{read_where}
 
 pub read_known : {A : Type 0} (o : Option A) {r : Result A NoMeaning} {b : Bool} → r ≡ ok_or o no_meaning → b ≡ is_ok r → b ≡ is_some o
 read_known None q p = rw q at p
@@ -15,3 +16,8 @@ pub read_value : {A : Type 0} (o : Option A) (d : A) {r : Result A NoMeaning} {x
     → x ≡ result_unwrap_or r d → r ≡ ok_or o no_meaning → x ≡ unwrap_or o d
 read_value None d p q = rw q at p
 read_value (Some y) d p q = rw q at p
+
+-- where all numbers of a call were read, they are known, and what was read is what they mean
+pub was_read : {A : Type 0} (known : Bool) (meant : A) {read : A} → Ok read ≡ read_where known meant → (known ≡ true) × (read ≡ meant)
+was_read true meant e = (refl, cc)
+was_read false meant e = absurd cc

@@ -80,7 +80,7 @@ fn predict_rows(
     requires { PlaneFits plane samples.now × BlockAt x y width height (length out.old) }
     ensures { out.new ≡ rectangle width height (direction_sample rounded (read_plane plane samples.now) (Frame v)) x y }
 {
-    predict_block(
+    let _ = predict_block(
         plane,
         samples,
         x as i32,
@@ -92,8 +92,7 @@ fn predict_rows(
         v.horizontal,
         v.vertical,
         out,
-    )
-    .unwrap();
+    );
 }
 
 /// A block of a field's lines.
@@ -112,7 +111,7 @@ fn predict_lines(
 {
     let v = u.vector;
     let reference_field = u.reference_field;
-    predict_field_block(
+    let _ = predict_field_block(
         FieldReference {
             plane: plane,
             parity: reference_field,
@@ -127,8 +126,7 @@ fn predict_lines(
         v.horizontal,
         v.vertical,
         out,
-    )
-    .unwrap();
+    );
 }
 
 /// A row of 8 or 16, by eights: a copy of a fixed length is one load and one store, and no call.
@@ -314,7 +312,7 @@ fn predict_two(
         backward_motion,
         &mut second[..n],
     );
-    average_predictions(&first[..n], &second[..n], out).unwrap();
+    let _ = average_predictions(&first[..n], &second[..n], out);
 }
 
 // ---- the three components of one direction

@@ -5,14 +5,6 @@ use Rattle.std.proofs.lemmas.Int.{to_z_pos, to_z-of_z}
 use Rattle.inter_reconstruction.proofs.Rectangles.{block_accepted, block_is_ok, block_written, rows_are}
 use Rattle.inter_reconstruction.proofs.macroblock.predict_rows.Goals as goal
 
-pub unwrap-requires : goal.unwrap-requires
-unwrap-requires c =
-    let a = c.args in
-    let b = c.requires.1 in
-    let x = to_z_pos w32 a.x (omega (arith, b.left)) in
-    let y = to_z_pos w32 a.y (omega (arith, b.top)) in
-    block_is_ok _ _ (simp (x, y) at c.predict_block.ensures.answer) (block_accepted a.plane a.samples.now a.x a.y a.width a.height (length a.out.now) c.requires.0 b)
-
 pub returns : goal.returns
 returns c =
     let a = c.args in
