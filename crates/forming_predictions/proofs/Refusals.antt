@@ -2,7 +2,7 @@
 -- Assumes nothing.
 use mathlib.Core.Path.{◌≡◌, refl, sym, ◌∙◌}
 use mathlib.Core.Bool.{Bool, true, false, not, ◌&&◌}
-use Prim.Native.Nat.{ℕ, zero, suc, ◌*◌, ◌≤◌, ◌<◌}
+use Prim.Native.Nat.{ℕ, ◌*◌, ◌≤◌, ◌<◌}
 use native.Mathlib.Nat.{mul-le-mul}
 use native.Mathlib.Omega.{arith}
 use lib.Dec.{leb, eqb}
@@ -16,7 +16,6 @@ use Rattle.laws.proofs.Bounded.{Within}
 use Rattle.laws.proofs.Tests.{both, range}
 use Rattle.std.specs.Prelude.{Option, Some, None}
 use Rattle.combine_predictions.specs.Refusals.{cause, or_else}
-use Rattle.forming_predictions.specs.declared.FormingRefusal.{FormingRefusal}
 use Rattle.forming_predictions.specs.declared.FormingRefusal.TheVariants.{OutsideDomain, WrongLength}
 use Rattle.forming_predictions.specs.Refusals.{plane_fits, position_fits, block_side_fits, last_sample, last_block, plane_refusal, position_refusal, sample_refusal, block_refusal}
 

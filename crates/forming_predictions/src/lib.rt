@@ -372,10 +372,8 @@ fn mean4_samples(a: &[u8], b: &[u8], c: &[u8], d: &[u8], out: &mut [u8])
     requires { (length b.now ≡ length a.now) × (length c.now ≡ length a.now) × (length d.now ≡ length a.now) × (length out.old ≡ length a.now) }
     ensures { out.new ≡ tabulate (length a.now) (λ (k : ℕ). mean4 (get_or a.now k 0) (get_or b.now k 0) (get_or c.now k 0) (get_or d.now k 0)) }
 {
-    let mut k: usize = 0;
-    while k < out.len() {
+    for k in 0..out.len() {
         out[k] = avg4(a[k], b[k], c[k], d[k]);
-        k += 1;
     }
 }
 
@@ -385,10 +383,8 @@ fn copy_eight(from: &[u8], out: &mut [u8])
     requires { (length from.now ≡ 8) × (length out.old ≡ 8) }
     ensures { out.new ≡ from.now }
 {
-    let mut k: usize = 0;
-    while k < 8 {
+    for k in 0..8 {
         out[k] = from[k];
-        k += 1;
     }
 }
 
@@ -397,10 +393,8 @@ fn copy_sixteen(from: &[u8], out: &mut [u8])
     requires { (length from.now ≡ 16) × (length out.old ≡ 16) }
     ensures { out.new ≡ from.now }
 {
-    let mut k: usize = 0;
-    while k < 16 {
+    for k in 0..16 {
         out[k] = from[k];
-        k += 1;
     }
 }
 
@@ -455,10 +449,8 @@ fn sixteen_of_pairs(
     requires upper_value { (upper.now ≡ averaged a.now b.now) × (lower.now ≡ averaged c.now d.now) × (mean.now ≡ averaged upper.now lower.now) }
     ensures { out.new ≡ tabulate (length a.now) (λ (k : ℕ). mean4 (get_or a.now k 0) (get_or b.now k 0) (get_or c.now k 0) (get_or d.now k 0)) }
 {
-    let mut k: usize = 0;
-    while k < 16 {
+    for k in 0..16 {
         out[k] = avg4_of_pairs(a[k], b[k], c[k], d[k], upper[k], lower[k], mean[k]);
-        k += 1;
     }
 }
 
@@ -586,8 +578,7 @@ fn two_square(
     ensures { out.new ≡ tabulate 64 (λ (k : ℕ). two_of samples.now samples.now (start + k / 8 * stride + x) (gap + dx) (k % 8)) }
 {
     let mut a = start;
-    let mut r: usize = 0;
-    while r < 8 {
+    for r in 0..8 {
         let b = a + gap;
         let e = a + width;
         let f = b + width;
@@ -595,7 +586,6 @@ fn two_square(
         let p = o + 8;
         two_eight(&samples[a..e], &samples[b..f], x, dx, &mut out[o..p]);
         a += stride;
-        r += 1;
     }
 }
 
@@ -647,8 +637,7 @@ fn form_inside(
         form_square(samples, width, first, step, count, x, y, dx, dy, out);
         return;
     }
-    let mut r: usize = 0;
-    while r < block_height {
+    for r in 0..block_height {
         let o = r * block_width;
         let e = o + block_width;
         form_line(
@@ -663,7 +652,6 @@ fn form_inside(
             dy,
             &mut out[o..e],
         );
-        r += 1;
     }
 }
 
@@ -674,10 +662,8 @@ fn clamp_columns(width: usize, x: i32, columns: &mut [usize])
     requires { Reach x × (length columns.old ≤ 17) }
     ensures { columns.new ≡ tabulate (length columns.old) (column_at width x) }
 {
-    let mut k: usize = 0;
-    while k < columns.len() {
+    for k in 0..columns.len() {
         columns[k] = clamp_to(width, shifted(x, k));
-        k += 1;
     }
 }
 
@@ -685,10 +671,8 @@ fn pick_eight(row: &[u8], columns: &[usize], out: &mut [u8])
     requires { ColumnsFit columns.now (length row.now) × (length columns.now ≡ 8) × (length out.old ≡ 8) }
     ensures { out.new ≡ tabulate 8 (picked_of row.now columns.now) }
 {
-    let mut k: usize = 0;
-    while k < 8 {
+    for k in 0..8 {
         out[k] = row[columns[k]];
-        k += 1;
     }
 }
 
@@ -748,8 +732,7 @@ fn fetch_lines(
     ensures { out.new ≡ tabulate (length columns.now * height) (λ (k : ℕ). picked samples.now width first step count columns.now (y +ℤ pos (k / length columns.now)) (k % length columns.now)) }
 {
     let n = columns.len();
-    let mut r: usize = 0;
-    while r < height {
+    for r in 0..height {
         let o = r * n;
         let e = o + n;
         fetch_line(
@@ -762,7 +745,6 @@ fn fetch_lines(
             shifted(y, r),
             &mut out[o..e],
         );
-        r += 1;
     }
 }
 
@@ -1006,8 +988,7 @@ fn form_any(
     requires { ViewFits samples.now width first step count × BlockFits dx dy block_width height out.old × Inside width count x y dx dy block_width height }
     ensures { out.new ≡ view_block samples.now width first step count (pos x) (pos y) dx dy block_width height }
 {
-    let mut r: usize = 0;
-    while r < height {
+    for r in 0..height {
         let o = r * block_width;
         let e = o + block_width;
         any_line(
@@ -1022,7 +1003,6 @@ fn form_any(
             dy,
             &mut out[o..e],
         );
-        r += 1;
     }
 }
 
@@ -1041,10 +1021,8 @@ fn clamped_row(row: &[u8], below: &[u8], x: i32, dx: usize, out: &mut [u8])
     requires { (0 < length row.now) × (length below.now ≡ length row.now) × Reach x × (dx ≤ 1) × (length out.old ≤ 16) }
     ensures { out.new ≡ tabulate (length out.old) (λ (k : ℕ). clamped_of row.now below.now (x +ℤ pos k) dx) }
 {
-    let mut k: usize = 0;
-    while k < out.len() {
+    for k in 0..out.len() {
         out[k] = clamped_sample(row, below, shifted(x, k), dx);
-        k += 1;
     }
 }
 
@@ -1053,10 +1031,8 @@ fn clamped_copy(row: &[u8], x: i32, out: &mut [u8])
     requires { (0 < length row.now) × Reach x × (length out.old ≤ 16) }
     ensures { out.new ≡ tabulate (length out.old) (λ (k : ℕ). get_or row.now (column_at (length row.now) x k) 0) }
 {
-    let mut k: usize = 0;
-    while k < out.len() {
+    for k in 0..out.len() {
         out[k] = row[clamp_to(row.len(), shifted(x, k))];
-        k += 1;
     }
 }
 
@@ -1106,8 +1082,7 @@ fn clamped_lines(
     requires { ViewFits samples.now width first step count × Reach x × Reach y × BlockFits dx dy block_width height out.old }
     ensures { out.new ≡ view_block samples.now width first step count x y dx dy block_width height }
 {
-    let mut r: usize = 0;
-    while r < height {
+    for r in 0..height {
         let o = r * block_width;
         let e = o + block_width;
         clamped_line(
@@ -1122,7 +1097,6 @@ fn clamped_lines(
             dy,
             &mut out[o..e],
         );
-        r += 1;
     }
 }
 
@@ -1455,12 +1429,7 @@ fn check_plane(plane: ReferencePlane, count: usize) -> Result<(), FormingRefusal
     check_domain(plane_fits(plane, count))
 }
 
-fn check_sample(
-    plane: ReferencePlane,
-    count: usize,
-    x: i32,
-    y: i32,
-) -> Result<(), FormingRefusal>
+fn check_sample(plane: ReferencePlane, count: usize, x: i32, y: i32) -> Result<(), FormingRefusal>
     ensures { result ≡ answered (sample_refusal plane.width plane.height count x y) tt }
 {
     check_domain(

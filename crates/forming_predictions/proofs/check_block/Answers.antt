@@ -1,6 +1,6 @@
 -- The tests of 14 are one, and 18 comes after them.
 -- Assumes nothing.
-use Rattle.std.proofs.Common.{◌≡◌, refl, sym, ap, ◌∙◌, Bool, not, ℕ, ◌*◌, eqb, ℤ, arith, w32, to_z, of_z, FitsSigned, Option, Some, None, Result, Ok, Err, rules}
+use Rattle.std.proofs.Common.{◌≡◌, refl, ap, ◌∙◌, Bool, not, ℕ, ◌*◌, eqb, ℤ, arith, w32, to_z, of_z, FitsSigned, Option, Result, Err, rules}
 use mathlib.Core.Bool.{◌&&◌}
 use mir.Facts.{to_z-of_z}
 use borrow.Author.Tests.{eq-eqb, ne_eqb}

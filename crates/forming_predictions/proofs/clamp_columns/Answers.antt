@@ -2,7 +2,7 @@
 -- Assumes nothing.
 use Rattle.std.proofs.Common.{ap, ◌∙◌, w32}
 use Rattle.laws.proofs.Bits.{back}
-use Rattle.laws.proofs.Filled.{filled_none, filled_step}
+use Rattle.laws.proofs.Filled.{filled_none, filled_turn}
 use Rattle.forming_predictions.specs.Lines.{clamp_to}
 use Rattle.forming_predictions.specs.inner.Views.{column_at}
 use Rattle.forming_predictions.proofs.clamp_columns.Goals as goal
@@ -13,5 +13,5 @@ loop-k-init c = filled_none _ _
 pub loop-k-preserved : goal.loop-k-preserved
 unfolding column_at
 loop-k-preserved c =
-    filled_step c.loop-k.invariant c.loop-k-test.true
+    filled_turn c.loop-k.invariant c.loop-k-test.true
     (c.clamp_to.ensures ∙ ap (clamp_to c.args.width) (back w32 c.shifted.result c.shifted.type_inv ∙ c.shifted.ensures))

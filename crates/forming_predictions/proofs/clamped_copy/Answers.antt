@@ -3,7 +3,7 @@
 use Rattle.std.proofs.Common.{ap, ◌∙◌, ℕ, refl, pos, ◌+ℤ◌, length, get_or, arith, w32}
 use mir.Facts.{to_z-of_z}
 use Rattle.laws.proofs.Bits.{back}
-use Rattle.laws.proofs.Filled.{filled_none, filled_step, filled_all}
+use Rattle.laws.proofs.Filled.{filled_none, filled_turn, filled_all}
 use Rattle.forming_predictions.specs.Lines.{clamp_to}
 use Rattle.forming_predictions.specs.inner.Views.{column_at}
 use Rattle.forming_predictions.proofs.Lines.{clamp_lt}
@@ -21,9 +21,9 @@ bounds-row-clamp_to c =
 pub loop-k-preserved : goal.loop-k-preserved
 unfolding column_at
 loop-k-preserved c =
-    filled_step c.loop-k.invariant c.loop-k-test.true
+    filled_turn c.loop-k.invariant c.loop-k-test.true
     (ap (λ (j : ℕ). get_or c.args.row.now j 0)
     (c.clamp_to.ensures ∙ ap (clamp_to (length c.args.row.now)) (back w32 c.shifted.result c.shifted.type_inv ∙ c.shifted.ensures)))
 
 pub returns : goal.returns
-returns c = rw (to_z-of_z c.ranges.x) at (filled_all c.loop-k.invariant c.loop-k-test.false refl)
+returns c = rw (to_z-of_z c.ranges.x) at (filled_all c.loop-k.invariant (omega (arith, c.loop-k.invariant.long)) refl)

@@ -1,6 +1,6 @@
 -- After r turns the first r rows are in place.
 -- Assumes nothing.
-use Rattle.std.proofs.Common.{ℕ, ◌-◌, ◌/◌, ◌%◌, pos, ◌+ℤ◌}
+use Rattle.std.proofs.Common.{ℕ, ◌/◌, ◌%◌, pos, ◌+ℤ◌}
 use Rattle.laws.proofs.Rows.{RowsFilled}
 use Rattle.forming_predictions.specs.inner.Views.{view_read, spread}
 use Rattle.forming_predictions.proofs.form_inside.Given as goal
@@ -10,6 +10,3 @@ invariant-loop-r l =
     RowsFilled
     (λ (k : ℕ). spread (view_read l.samples l.width l.first l.step l.count) (pos l.x +ℤ pos (k % l.block_width)) (pos l.y +ℤ pos (k / l.block_width)) l.dx l.dy)
     l.initial.out l.block_width l.block_height l.r l.out
-
-abbrev pub decreases-loop-r : goal.decreases-loop-r
-decreases-loop-r l = l.block_height - l.r
