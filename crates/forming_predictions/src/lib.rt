@@ -377,52 +377,29 @@ fn mean4_samples(a: &[u8], b: &[u8], c: &[u8], d: &[u8], out: &mut [u8])
     }
 }
 
-/// The loop has a fixed length, so that it is unrolled before `from` is known to be a local array; copied as a whole, the eight samples
-/// would be one number, put together sample by sample.
-fn copy_eight(from: &[u8], out: &mut [u8])
-    requires { (length from.now ≡ 8) × (length out.old ≡ 8) }
+/// The loop has a fixed length, so that it is unrolled before `from` is known to be a local array; copied as a whole, eight samples would
+/// be one number, put together sample by sample.
+fn copy_samples<const N: usize>(from: &[u8; N], out: &mut [u8])
+    requires { length out.old ≡ N }
     ensures { out.new ≡ from.now }
 {
-    for k in 0..8 {
+    for k in 0..N {
         out[k] = from[k];
     }
 }
 
-/// The same for sixteen.
-fn copy_sixteen(from: &[u8], out: &mut [u8])
-    requires { (length from.now ≡ 16) × (length out.old ≡ 16) }
-    ensures { out.new ≡ from.now }
-{
-    for k in 0..16 {
-        out[k] = from[k];
-    }
-}
-
-/// Eight means of two samples. They go through a local array: there the loop has a fixed length and writes nothing that it might read, and
-/// it compiles to one instruction.
-fn two_eight(row: &[u8], below: &[u8], x: usize, dx: usize, out: &mut [u8])
-    requires { RowFits row.now below.now x dx 8 × (length out.old ≡ 8) }
-    ensures { out.new ≡ tabulate 8 (two_of row.now below.now x dx) }
+/// N means of two samples. They go through a local array: there the loop has a fixed length and writes nothing that it might read, and it
+/// compiles to one instruction.
+fn two_row<const N: usize>(row: &[u8], below: &[u8], x: usize, dx: usize, out: &mut [u8])
+    requires { RowFits row.now below.now x dx N × (length out.old ≡ N) }
+    ensures { out.new ≡ tabulate N (two_of row.now below.now x dx) }
 {
     let right = x + dx;
-    let e = x + 8;
-    let f = right + 8;
-    let mut local = [0u8; 8];
+    let e = x + N;
+    let f = right + N;
+    let mut local = [0u8; N];
     mean2_samples(&row[x..e], &below[right..f], &mut local);
-    copy_eight(&local, out);
-}
-
-/// Sixteen means of two samples, likewise.
-fn two_sixteen(row: &[u8], below: &[u8], x: usize, dx: usize, out: &mut [u8])
-    requires { RowFits row.now below.now x dx 16 × (length out.old ≡ 16) }
-    ensures { out.new ≡ tabulate 16 (two_of row.now below.now x dx) }
-{
-    let right = x + dx;
-    let e = x + 16;
-    let f = right + 16;
-    let mut local = [0u8; 16];
-    mean2_samples(&row[x..e], &below[right..f], &mut local);
-    copy_sixteen(&local, out);
+    copy_samples(&local, out);
 }
 
 /// The mean of four samples from the means of its two pairs and the mean of those. That one rounds twice: it is 1 too large where the mean
@@ -454,7 +431,7 @@ fn sixteen_of_pairs(
     }
 }
 
-/// Eight means of four samples, by their sums, through a local array as in `two_eight`.
+/// Eight means of four samples, by their sums, through a local array as in `two_row`.
 fn four_eight(row: &[u8], below: &[u8], x: usize, dx: usize, out: &mut [u8])
     requires { RowFits row.now below.now x dx 8 × (length out.old ≡ 8) }
     ensures { out.new ≡ tabulate 8 (four_of row.now below.now x dx) }
@@ -470,7 +447,7 @@ fn four_eight(row: &[u8], below: &[u8], x: usize, dx: usize, out: &mut [u8])
         &below[right..f],
         &mut local,
     );
-    copy_eight(&local, out);
+    copy_samples(&local, out);
 }
 
 /// Sixteen means of four samples. A mean of two is one instruction for all sixteen, and these are formed of such means.
@@ -498,44 +475,21 @@ fn four_sixteen(row: &[u8], below: &[u8], x: usize, dx: usize, out: &mut [u8])
         &mean,
         &mut local,
     );
-    copy_sixteen(&local, out);
+    copy_samples(&local, out);
 }
 
-/// Eight predicted samples out of two rows of the plane, which are one where `dy` is 0. Unless both steps are 1, two samples are enough.
-fn eight_row(row: &[u8], below: &[u8], x: usize, dx: usize, dy: usize, out: &mut [u8])
-    requires { RowFits row.now below.now x dx 8 × (dx ≤ 1) × (dy ≤ 1) × (dy ≡ 0 → below.now ≡ row.now) × (length out.old ≡ 8) }
-    ensures { out.new ≡ tabulate 8 (four_of row.now below.now x dx) }
-{
-    if dx + dy == 2 {
-        four_eight(row, below, x, dx, out);
-        return;
-    }
-    two_eight(row, below, x, dx, out);
-}
-
-/// Sixteen, likewise.
-fn sixteen_row(row: &[u8], below: &[u8], x: usize, dx: usize, dy: usize, out: &mut [u8])
-    requires { RowFits row.now below.now x dx 16 × (dx ≤ 1) × (dy ≤ 1) × (dy ≡ 0 → below.now ≡ row.now) × (length out.old ≡ 16) }
-    ensures { out.new ≡ tabulate 16 (four_of row.now below.now x dx) }
-{
-    if dx + dy == 2 {
-        four_sixteen(row, below, x, dx, out);
-        return;
-    }
-    two_sixteen(row, below, x, dx, out);
-}
-
-/// A row of 8 or 16 predicted samples. The width is asked for first: where the pattern is, the compiler joins what the widths have in common
-/// and takes it apart sample by sample.
+/// A row of 8 or 16 predicted samples out of two rows of the plane, which are one where `dy` is 0. Unless both steps are 1, two samples
+/// are enough.
 fn form_row(row: &[u8], below: &[u8], x: usize, dx: usize, dy: usize, out: &mut [u8])
     requires { RowFits row.now below.now x dx (length out.old) × (dx ≤ 1) × (dy ≤ 1) × (dy ≡ 0 → below.now ≡ row.now) × Eights (length out.old) }
     ensures { out.new ≡ tabulate (length out.old) (four_of row.now below.now x dx) }
 {
-    if out.len() == 16 {
-        sixteen_row(row, below, x, dx, dy, out);
-        return;
+    match (out.len() == 16, dx + dy == 2) {
+        (true, true) => four_sixteen(row, below, x, dx, out),
+        (true, false) => two_row::<16>(row, below, x, dx, out),
+        (false, true) => four_eight(row, below, x, dx, out),
+        (false, false) => two_row::<8>(row, below, x, dx, out),
     }
-    eight_row(row, below, x, dx, dy, out);
 }
 
 /// A row of a block from line y on: the plane's rows are handed on as parts of its bytes.
@@ -584,7 +538,7 @@ fn two_square(
         let f = b + width;
         let o = r * 8;
         let p = o + 8;
-        two_eight(&samples[a..e], &samples[b..f], x, dx, &mut out[o..p]);
+        two_row::<8>(&samples[a..e], &samples[b..f], x, dx, &mut out[o..p]);
         a += stride;
     }
 }

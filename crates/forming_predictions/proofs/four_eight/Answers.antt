@@ -5,4 +5,4 @@ use Rattle.forming_predictions.proofs.RowMeans.{four_parts}
 use Rattle.forming_predictions.proofs.four_eight.Goals as goal
 
 pub returns : goal.returns
-returns c = c.copy_eight.ensures ∙ c.mean4_samples.ensures ∙ four_parts c.requires.0
+returns c = c.copy_samples.ensures ∙ c.mean4_samples.ensures ∙ four_parts c.requires.0

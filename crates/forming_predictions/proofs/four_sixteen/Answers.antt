@@ -5,4 +5,4 @@ use Rattle.forming_predictions.proofs.RowMeans.{four_parts}
 use Rattle.forming_predictions.proofs.four_sixteen.Goals as goal
 
 pub returns : goal.returns
-returns c = c.copy_sixteen.ensures ∙ c.sixteen_of_pairs.ensures ∙ four_parts c.requires.0
+returns c = c.copy_samples.ensures ∙ c.sixteen_of_pairs.ensures ∙ four_parts c.requires.0

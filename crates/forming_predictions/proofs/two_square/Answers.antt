@@ -30,7 +30,7 @@ loop-r-preserved c =
     let room : l.a + g.gap + g.width ≤ length g.samples.now = omega (arith, c.requires.0, l.invariant.1, mul-le-mul_right g.stride few) in
     let next : (l.r + 1) * g.stride ≡ l.r * g.stride + g.stride = rw (add-one l.r) (suc-mul l.r g.stride) in (
       rows_step l.invariant.0 turn
-          (c.two_eight.ensures
+          (c.two_row.ensures
           ∙ ap (λ (n : ℕ). tabulate n (two_of (part g.samples.now g.width l.a) (part g.samples.now g.width (l.a + g.gap)) g.x g.dx)) (sym (rows_part l.invariant.0 turn)))
           (λ k h. parts_two g.samples.now g.width l.a (l.a + g.gap) (omega (arith, room)) room g.x g.dx g.gap k refl (omega (arith, c.requires.2))
           ∙ cell g.samples.now g.start g.gap g.stride g.x g.dx l.a l.r k l.invariant.1 h),

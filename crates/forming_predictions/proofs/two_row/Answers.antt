@@ -2,7 +2,7 @@
 -- Assumes nothing.
 use Rattle.std.proofs.Common.{◌∙◌}
 use Rattle.forming_predictions.proofs.RowMeans.{two_parts}
-use Rattle.forming_predictions.proofs.two_sixteen.Goals as goal
+use Rattle.forming_predictions.proofs.two_row.Goals as goal
 
 pub returns : goal.returns
-returns c = c.copy_sixteen.ensures ∙ c.mean2_samples.ensures ∙ two_parts c.requires.0
+returns g c = c.copy_samples.ensures ∙ c.mean2_samples.ensures ∙ two_parts c.requires.0

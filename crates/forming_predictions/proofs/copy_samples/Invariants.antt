@@ -2,7 +2,7 @@
 -- Assumes nothing.
 use Rattle.std.proofs.Common.{ℕ, get_or}
 use Rattle.laws.proofs.Filled.{Filled}
-use Rattle.forming_predictions.proofs.copy_eight.Given as goal
+use Rattle.forming_predictions.proofs.copy_samples.Given as goal
 
 abbrev pub invariant-loop-k : goal.invariant-loop-k
-invariant-loop-k l = Filled (λ (i : ℕ). get_or l.from i 0) l.initial.out l.k l.out
+invariant-loop-k g l = Filled (λ (i : ℕ). get_or l.from i 0) l.initial.out l.k l.out
