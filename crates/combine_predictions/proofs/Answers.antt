@@ -39,3 +39,7 @@ pub rest_decides : {R A B : Type 0} (n m : Option R) (v : A) (w : B) {u : A} {a 
     → Ok u ≡ answered n v → a ≡ answered m w → a ≡ answered (or_else n m) w
 rest_decides None m v w e f = f
 rest_decides (Some r) m v w e f = absurd cc
+
+-- a value that is given, where nothing is refused
+pub given : {R A : Type 0} {n : Option R} {v w : A} → n ≡ None → w ≡ v → Ok w ≡ answered n v
+given e f = rw (e, f)

@@ -51,16 +51,9 @@ four_next row below x dx m i =
     rw (p, q)
 
 -- what the test of a width says
-eights_of : (n : ℕ) → (eqb n 8 ≡ true) ⊎ (eqb n 16 ≡ true) → Eights n
-eights_of n (inl p) =
-    let e = eqb-true n 8 p in
-    record { some = omega arith; wide = omega arith; even = omega arith }
-eights_of n (inr p) =
-    let e = eqb-true n 16 p in
-    record { some = omega arith; wide = omega arith; even = omega arith }
-
-pub eights_yes : (n : ℕ) → (eqb n 8 || eqb n 16) ≡ true → Eights n
-eights_yes n e = eights_of n (either (eqb n 8) (eqb n 16) e)
+pub eights_of : (n : ℕ) → (n ≡ 8) ⊎ (n ≡ 16) → Eights n
+eights_of n (inl e) = record { some = omega arith; wide = omega arith; even = omega arith }
+eights_of n (inr e) = record { some = omega arith; wide = omega arith; even = omega arith }
 
 -- eight of a block's columns
 pub part_columns : {columns : List ℕ} {w : ℕ} (a : ℕ) → ColumnsFit columns w → a + 8 ≤ length columns → ColumnsFit (take (a + 8 - a) (drop a columns)) w
