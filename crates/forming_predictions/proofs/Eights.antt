@@ -2,19 +2,15 @@
 -- Assumes nothing.
 use mathlib.Core.Path.{◌≡◌, refl, sym, ap, ◌∙◌}
 use mathlib.Core.Logic.{◌⊎◌, inl, inr}
-use mathlib.Core.Bool.{true, ◌||◌}
 use mathlib.Core.List.{List}
 use Prim.Native.Nat.{ℕ, ◌+◌, ◌-◌, ◌≤◌, ◌<◌}
 use native.Mathlib.Nat.{zero-add}
 use native.Mathlib.Omega.{arith}
-use lib.Dec.{eqb}
 use lib.ListN.{length, take, drop}
-use borrow.Author.Tests.{eqb-true}
 use borrow.Rule.Slice.PartMut.{put_mid}
 use Rattle.laws.specs.Tabulate.{tabulate}
 use Rattle.laws.proofs.Filled.{Filled, filled_none, filled_length, filled_part, filled_again, filled_all}
 use Rattle.laws.proofs.Parts.{part_length, part_at}
-use Rattle.laws.proofs.Tests.{either}
 use Rattle.forming_predictions.specs.inner.Views.{four_of, Eights, ColumnsFit}
 
 -- the first eight of a buffer, and the next eight

@@ -1,14 +1,12 @@
 -- Laws of views: what lies in a plane, and that the view of a frame or field reads as docs/SCOPE.md says.
 -- Assumes nothing.
-use mathlib.Core.Path.{◌≡◌, refl, ap, sym, ◌∙◌}
-use mathlib.Core.Bool.{◌||◌, cond}
-use mathlib.Core.List.{List, [], ◌∷◌}
+use mathlib.Core.Path.{◌≡◌, refl, sym, ◌∙◌}
+use mathlib.Core.List.{List}
 use Prim.Native.Nat.{ℕ, zero, suc, ◌+◌, ◌*◌, ◌≤◌, ◌<◌}
-use native.Mathlib.Nat.{zero-mul, mul-zero, mul_comm, mul-le-mul, mul-le-mul_right, suc-mul}
+use native.Mathlib.Nat.{zero-mul, mul-zero, mul_comm, mul-le-mul_right, suc-mul}
 use native.Mathlib.Omega.{arith}
-use lib.Dec.{eqb}
 use lib.IntN.{ℤ, pos}
-use lib.ListN.{length, get_or}
+use lib.ListN.{length}
 use borrow.Author.Tests.{ne_eqb}
 use Rattle.forming_predictions.specs.Lines.{Lines, frame, field, parity_row, field_lines, clamp_to, row_of, sample_at}
 use Rattle.forming_predictions.specs.inner.Views.{line_start, view_read, ViewFits}

@@ -121,6 +121,7 @@ fn form_fetched(
 }
 
 /// A block whose columns, and one more, are `COLUMNS` at most, and `ROOM` the samples that it may read.
+#[inline(never)]
 pub(crate) fn form_eights<const COLUMNS: usize, const ROOM: usize>(
     view: View<'_>,
     x: i32,

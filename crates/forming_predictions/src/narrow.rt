@@ -51,6 +51,7 @@ fn any_line(view: View<'_>, x: usize, y: usize, to: Neighbour, out: &mut [u8])
 }
 
 /// A block whose reads all lie inside.
+#[inline(never)]
 pub(crate) fn form_any(
     view: View<'_>,
     x: usize,
@@ -114,6 +115,7 @@ fn clamped_line(view: View<'_>, x: i32, y: i32, to: Neighbour, out: &mut [u8])
 }
 
 /// A block that reaches past an edge, out of the plane's rows: a small one takes less time than room for a copy of what it reads.
+#[inline(never)]
 pub(crate) fn form_clamped(
     view: View<'_>,
     x: i32,

@@ -1,12 +1,11 @@
 -- A view of a plane's rows as lines: line 0 is row `first`, and lines are `step` rows apart. A frame and its fields are views, and so is
 -- a block that was copied out of one. For private contracts alone: that a view reads as 7.6.4 and docs/SCOPE.md say is proved.
-use Rattle.std.specs.Prelude.{◌≡◌, Bool, true, false, ◌||◌, cond, List, ℕ, ◌+◌, ◌*◌, ◌%◌, ◌≤◌, ◌<◌, eqb, leb, ℤ, pos, negsuc, ◌+ℤ◌, length, get_or}
+use Rattle.std.specs.Prelude.{◌≡◌, Bool, true, false, List, ℕ, ◌+◌, ◌*◌, ◌%◌, ◌≤◌, ◌<◌, leb, ℤ, pos, negsuc, ◌+ℤ◌, length, get_or}
 use Rattle.std.specs.Int.{w32}
 use Rattle.std.proofs.Common.{SFits}
 use Rattle.combine_predictions.specs.Averaging.{mean2}
-use Rattle.forming_predictions.specs.Lines.{Lines, clamp_to, row_of}
+use Rattle.forming_predictions.specs.Lines.{clamp_to}
 use Rattle.forming_predictions.specs.Means.{mean4}
-use Rattle.forming_predictions.specs.Forming.{block_of}
 
 -- the place of line j's first sample, in rows of w samples
 abbrev pub line_start : ℕ → ℕ → ℕ → ℕ → ℕ

@@ -2,7 +2,7 @@
 -- Assumes nothing.
 use Rattle.std.proofs.Common.{ap, sym, ◌∙◌, Some, arith}
 use mir.Facts.{to_z-of_z}
-use Rattle.combine_predictions.proofs.Answers.{given, refusal_of, value_of}
+use Rattle.combine_predictions.proofs.Answers.{given}
 use Rattle.forming_predictions.specs.inner.Blocks.{read}
 use Rattle.forming_predictions.proofs.Refusals.{sample_right, plane_none}
 use Rattle.forming_predictions.proofs.Reading.{sample_accepted, at_moved, at_half}

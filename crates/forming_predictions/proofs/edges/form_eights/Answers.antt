@@ -1,6 +1,6 @@
 -- The columns are those of the block, and there is room for what it reads.
 -- Assumes nothing.
-use Rattle.std.proofs.Common.{◌≡◌, ℕ, ◌+◌, ◌*◌, ap, sym, ◌∙◌, List, ℤ, FitsSigned, w32, to_z, of_z, arith}
+use Rattle.std.proofs.Common.{◌≡◌, ℕ, ◌+◌, ◌*◌, ap, ◌∙◌, List, ℤ, FitsSigned, w32, to_z, of_z}
 use Rattle.std.proofs.lemmas.List.{length-replicate}
 use Rattle.laws.specs.Tabulate.{tabulate}
 use Rattle.forming_predictions.specs.inner.Views.{column_at}

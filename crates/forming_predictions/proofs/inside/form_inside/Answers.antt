@@ -1,6 +1,6 @@
 -- A turn writes the next row, and after the last one the block is whole.
 -- Assumes nothing.
-use Rattle.std.proofs.Common.{ℤ, pos, arith}
+use Rattle.std.proofs.Common.{pos, arith}
 use Rattle.laws.proofs.Rows.{rows_none, rows_step, rows_all}
 use Rattle.forming_predictions.specs.Forming.{block_of}
 use Rattle.forming_predictions.specs.inner.Views.{line_cell}

@@ -1,6 +1,6 @@
 -- The rows and the columns are those that the view reads.
 -- Assumes nothing.
-use Rattle.std.proofs.Common.{◌≡◌, refl, ◌∙◌, ◌*◌, ◌≤◌, arith}
+use Rattle.std.proofs.Common.{◌≡◌, refl, ◌∙◌, ◌*◌, arith}
 use native.Mathlib.Nat.{mul-le-mul}
 use Rattle.forming_predictions.proofs.Blocks.{no_gap, square_room, square_block}
 use Rattle.forming_predictions.proofs.inside.form_square.Goals as goal

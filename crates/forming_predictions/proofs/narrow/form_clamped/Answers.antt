@@ -1,6 +1,6 @@
 -- The invariant before the first turn, after a turn that writes a row, and that all rows are the block.
 -- Assumes nothing.
-use Rattle.std.proofs.Common.{◌∙◌, ℤ, w32, to_z, of_z}
+use Rattle.std.proofs.Common.{◌∙◌, w32, to_z, of_z}
 use mir.Facts.{to_z-of_z}
 use Rattle.laws.proofs.Bits.{back}
 use Rattle.laws.proofs.Rows.{rows_none, rows_step, rows_all}

@@ -1,6 +1,6 @@
 -- The rows are the field's lines.
 -- Assumes nothing.
-use Rattle.std.proofs.Common.{◌∙◌, sym, arith}
+use Rattle.std.proofs.Common.{◌∙◌, sym}
 use Rattle.forming_predictions.proofs.Refusals.{plane_right}
 use Rattle.forming_predictions.proofs.Views.{field_reads, rows_view, rows_read, no_field}
 use Rattle.forming_predictions.proofs.reference.FieldReferenceReference.view.Goals as goal

@@ -1,8 +1,7 @@
 -- Four samples are read, some of them the same where a step is 0.
 -- Assumes nothing.
-use Rattle.std.proofs.Common.{◌∙◌, w32}
+use Rattle.std.proofs.Common.{◌∙◌}
 use mir.Facts.{to_z-of_z}
-use Rattle.laws.proofs.Bits.{back}
 use Rattle.forming_predictions.specs.inner.Views.{spread}
 use Rattle.forming_predictions.proofs.Reading.{at_shifted}
 use Rattle.forming_predictions.proofs.view.View.form_sample.Goals as goal

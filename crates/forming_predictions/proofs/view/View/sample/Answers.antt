@@ -1,6 +1,5 @@
 -- The place that is read lies in the row, and is the one that the view reads.
 -- Assumes nothing.
-use Rattle.std.proofs.Common.{ap, ◌∙◌, get_or, arith}
 use mir.Facts.{to_z-of_z}
 use Rattle.forming_predictions.proofs.Reading.{at_line, line_lt}
 use Rattle.forming_predictions.proofs.ViewRows.{clamped_length, clamped_read}
