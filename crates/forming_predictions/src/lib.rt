@@ -115,39 +115,21 @@ impl HalfPattern {
     pub fn from_flags(half_horiz: bool, half_vert: bool) -> Self
         ensures { (horizontal_half result ≡ half_horiz) × (vertical_half result ≡ half_vert) }
     {
-        if half_horiz {
-            if half_vert {
-                return HalfPattern::HalfBoth;
-            }
-            return HalfPattern::HalfHorizontal;
+        match (half_horiz, half_vert) {
+            (false, false) => HalfPattern::Integer,
+            (true, false) => HalfPattern::HalfHorizontal,
+            (false, true) => HalfPattern::HalfVertical,
+            (true, true) => HalfPattern::HalfBoth,
         }
-        if half_vert {
-            return HalfPattern::HalfVertical;
-        }
-        HalfPattern::Integer
     }
 
     /// The pattern's flags.
     pub fn flags(self) -> HalfFlags
         ensures { (result.horizontal ≡ horizontal_half self) × (result.vertical ≡ vertical_half self) }
     {
-        match self {
-            HalfPattern::Integer => HalfFlags {
-                horizontal: false,
-                vertical: false,
-            },
-            HalfPattern::HalfHorizontal => HalfFlags {
-                horizontal: true,
-                vertical: false,
-            },
-            HalfPattern::HalfVertical => HalfFlags {
-                horizontal: false,
-                vertical: true,
-            },
-            HalfPattern::HalfBoth => HalfFlags {
-                horizontal: true,
-                vertical: true,
-            },
+        HalfFlags {
+            horizontal: matches!(self, HalfPattern::HalfHorizontal | HalfPattern::HalfBoth),
+            vertical: matches!(self, HalfPattern::HalfVertical | HalfPattern::HalfBoth),
         }
     }
 
@@ -155,12 +137,7 @@ impl HalfPattern {
     pub fn is_half_pel(self) -> bool
         ensures { result ≡ (horizontal_half self || vertical_half self) }
     {
-        match self {
-            HalfPattern::Integer => false,
-            HalfPattern::HalfHorizontal => true,
-            HalfPattern::HalfVertical => true,
-            HalfPattern::HalfBoth => true,
-        }
+        self != HalfPattern::Integer
     }
 }
 
