@@ -20,7 +20,7 @@ use Rattle.laws.proofs.Parts.{part_length, part_at}
 use Rattle.forming_predictions.specs.Lines.{clamp_to}
 use Rattle.forming_predictions.specs.Means.{mean4}
 use Rattle.forming_predictions.specs.Forming.{block_of}
-use Rattle.forming_predictions.specs.inner.Views.{line_start, view_read, spread, two_of, four_of, clamped_of, line_cell, picked, column_at, inside_of, ViewFits, SidesFit, Inside, ColumnsFit, FetchFits}
+use Rattle.forming_predictions.specs.inner.Views.{line_start, view_read, spread, two_of, four_of, clamped_of, line_cell, picked, column_at, inside_of, ViewFits, SidesFit, Inside, ColumnsFit}
 use Rattle.forming_predictions.proofs.Lines.{clamp_in, clamp_lt}
 use Rattle.forming_predictions.proofs.RowMeans.{mean4_same, two_is_four}
 
@@ -189,23 +189,16 @@ columns_inside {columns} {w} n x e r k h =
     let l : length columns ≡ n = ap length e ∙ length_tab n (column_at w x) in
     rw (e, get_or_tab n (column_at w x) k 0 (omega arith)) (clamp_lt w (x +ℤ pos k) r)
 
-pub fetch_fits : {columns region : List ℕ} {w bw : ℕ} (x : ℤ) → columns ≡ tabulate (bw + 1) (column_at w x) → length region ≡ (bw + 1) * 17 → 0 < w
-    → FetchFits columns region w bw
-fetch_fits {columns} {region} {w} {bw} x e r p =
-    record {
-      columns_count = ap length e ∙ length_tab (bw + 1) (column_at w x);
-      region_count = r;
-      inside = columns_inside (bw + 1) x e p;
-    }
+pub columns_fit : {columns : List ℕ} {w : ℕ} (n : ℕ) (x : ℤ) → columns ≡ tabulate n (column_at w x) → 0 < w → ColumnsFit columns w
+columns_fit n x e p = record { inside = columns_inside n x e p }
 
 -- and what is picked in them is what the view reads
 pub picked_block : (s : List ℕ) {columns : List ℕ} (w first step count n : ℕ) (x y : ℤ) (h : ℕ) → columns ≡ tabulate n (column_at w x) → 0 < n
-    → tabulate (length columns * h) (λ (k : ℕ). picked s w first step count columns (y +ℤ pos (k / length columns)) (k % length columns))
+    → tabulate (n * h) (λ (k : ℕ). picked s w first step count columns (y +ℤ pos (k / n)) (k % n))
     ≡ block_of n h (view_read s w first step count) x y
 unfolding block_of picked view_read column_at
 picked_block s {columns} w first step count n x y h e p =
-    let l : length columns ≡ n = ap length e ∙ length_tab n (column_at w x) in
-    rw (l, e) (tab_ext (n * h) _ _ (λ k q. rw (get_or_tab n (column_at w x) (k % n) 0 (mod-lt k p))))
+    rw e (tab_ext (n * h) _ _ (λ k q. rw (get_or_tab n (column_at w x) (k % n) 0 (mod-lt k p))))
 
 -- four reads that agree give one mean
 spread_cong : (f g : ℤ → ℤ → ℕ) (a b c d : ℤ) (dx dy : ℕ)

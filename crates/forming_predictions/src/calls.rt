@@ -13,7 +13,7 @@ ghost use Rattle.forming_predictions.specs.inner.Views.{Reach, bit_of};
 ghost use Rattle.forming_predictions.specs.inner.Blocks.{block_at};
 
 use crate::checks::{check_block, check_plane, check_sample};
-use crate::edges::form_eights;
+use crate::edges::form_fetched;
 use crate::inside::{form_inside, is_inside};
 use crate::narrow::{form_any, form_clamped};
 use crate::reference::Reference;
@@ -27,12 +27,14 @@ fn form(view: View<'_>, x: i32, y: i32, to: Neighbour, size: Sides, out: &mut [u
 {
     let columns = is_inside(x, to.right + size.width, view.width);
     let inside = columns & is_inside(y, to.below + size.height, view.count);
-    match (inside, size.width) {
-        (true, 8 | 16) => form_inside(view, x as usize, y as usize, to, size, out),
-        (true, _) => form_any(view, x as usize, y as usize, to, size, out),
-        (false, 8) => form_eights::<9, 153>(view, x, y, to, size, out),
-        (false, 16) => form_eights::<17, 289>(view, x, y, to, size, out),
-        (false, _) => form_clamped(view, x, y, to, size, out),
+    match (inside, size.width, to.right) {
+        (true, 8 | 16, _) => form_inside(view, x as usize, y as usize, to, size, out),
+        (true, _, _) => form_any(view, x as usize, y as usize, to, size, out),
+        (false, 8, 0) => form_fetched::<8, 136>(view, x, y, to, size, out),
+        (false, 8, _) => form_fetched::<9, 153>(view, x, y, to, size, out),
+        (false, 16, 0) => form_fetched::<16, 272>(view, x, y, to, size, out),
+        (false, 16, _) => form_fetched::<17, 289>(view, x, y, to, size, out),
+        (false, _, _) => form_clamped(view, x, y, to, size, out),
     }
 }
 

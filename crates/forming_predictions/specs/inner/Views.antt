@@ -95,17 +95,8 @@ pub record Inside (w count x y dx dy bw bh : ℕ) : Type 0 where
   pub right : x + dx + bw ≤ w
   pub below : y + dy + bh ≤ count
 
--- 8 or 16 columns, or one more, inside a row
+-- columns inside a row
 pub record ColumnsFit (columns : List ℕ) (w : ℕ) : Type 0 where
-  pub some : 8 ≤ length columns
-  pub few : length columns ≤ 17
-  pub even : length columns % 8 ≤ 1
-  pub inside : (k : ℕ) → k < length columns → get_or columns k 0 < w
-
--- the columns and the room for samples that a block of bw columns may need
-pub record FetchFits (columns region : List ℕ) (w bw : ℕ) : Type 0 where
-  pub columns_count : length columns ≡ bw + 1
-  pub region_count : length region ≡ (bw + 1) * 17
   pub inside : (k : ℕ) → k < length columns → get_or columns k 0 < w
 
 -- a coordinate from which n steps can be made
