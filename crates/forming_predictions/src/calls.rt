@@ -14,8 +14,8 @@ ghost use Rattle.forming_predictions.specs.inner.Blocks.{block_at};
 
 use crate::checks::{check_block, check_plane, check_sample};
 use crate::edges::form_fetched;
-use crate::inside::{form_inside, is_inside};
-use crate::narrow::{form_any, form_clamped};
+use crate::inside::{form_any, form_inside, is_inside};
+use crate::narrow::form_clamped;
 use crate::reference::Reference;
 use crate::view::{Neighbour, Sides, View};
 use crate::{BlockSize, FormingRefusal, split_component};

@@ -1,11 +1,11 @@
-//! Blocks of 8 or 16 columns whose reads all lie inside a view: nothing is clamped.
+//! Blocks whose reads all lie inside a view: nothing is clamped.
 
-ghost use Rattle.std.specs.Prelude.{◌≡◌, ℕ, ◌+◌, ◌*◌, ◌/◌, ◌%◌, ◌≤◌, pos, length};
+ghost use Rattle.std.specs.Prelude.{◌≡◌, true, ℕ, ◌+◌, ◌*◌, ◌/◌, ◌%◌, ◌≤◌, pos, length};
 ghost use Rattle.laws.specs.Tabulate.{tabulate};
 ghost use Rattle.forming_predictions.specs.inner.Views.{two_of, Eights, inside_of};
 ghost use Rattle.forming_predictions.specs.inner.Blocks.{cell_at, block_at, LiesIn};
 
-use crate::means::{form_row, two_row};
+use crate::means::{any_row, form_row, two_row};
 use crate::view::{Neighbour, Sides, View};
 
 /// Whether n places from `position` on lie below the limit.
@@ -19,19 +19,43 @@ pub(crate) fn is_inside(position: i32, n: usize, limit: usize) -> bool
     position as usize + n <= limit
 }
 
-/// A row of a block from line y on.
-fn form_line(view: View<'_>, x: usize, y: usize, to: Neighbour, out: &mut [u8])
-    requires { LiesIn view to x y (length out.old) 1 × Eights (length out.old) }
+/// A row of a block from line y on: of 8 or 16 samples, or of any number.
+fn form_line<const EIGHTS: bool>(
+    view: View<'_>,
+    x: usize,
+    y: usize,
+    to: Neighbour,
+    out: &mut [u8],
+)
+    requires { LiesIn view to x y (length out.old) 1 × (EIGHTS ≡ true → Eights (length out.old)) × (length out.old ≤ 16) }
     ensures { out.new ≡ tabulate (length out.old) (cell_at view.entry to (pos x) (pos y)) }
 {
-    form_row(
-        view.row(y),
-        view.row(y + to.below),
-        x,
-        to.right,
-        to.below,
-        out,
-    );
+    let row = view.row(y);
+    let below = view.row(y + to.below);
+    if EIGHTS {
+        form_row(row, below, x, to.right, to.below, out);
+        return;
+    }
+    any_row(row, below, x, to.right, out);
+}
+
+/// A block of 8 or 16 columns, or of any number.
+fn form_lines<const EIGHTS: bool>(
+    view: View<'_>,
+    x: usize,
+    y: usize,
+    to: Neighbour,
+    size: Sides,
+    out: &mut [u8],
+)
+    requires { LiesIn view to x y size.width size.height × (EIGHTS ≡ true → Eights size.width) × (length out.old ≡ size.width * size.height) }
+    ensures { out.new ≡ block_at view.entry to (pos x) (pos y) size.width size.height }
+{
+    for r in 0..size.height {
+        let o = r * size.width;
+        let e = o + size.width;
+        form_line::<EIGHTS>(view, x, y + r, to, &mut out[o..e]);
+    }
 }
 
 /// Eight rows of eight, of two samples each: one of a row of the plane, the other `dx` columns to the right in the row that starts `gap`
@@ -101,9 +125,21 @@ pub(crate) fn form_inside(
         form_square(view, x, y, to, out);
         return;
     }
-    for r in 0..size.height {
-        let o = r * size.width;
-        let e = o + size.width;
-        form_line(view, x, y + r, to, &mut out[o..e]);
-    }
+    form_lines::<true>(view, x, y, to, size, out);
+}
+
+/// A block of any number of columns.
+#[inline(never)]
+pub(crate) fn form_any(
+    view: View<'_>,
+    x: usize,
+    y: usize,
+    to: Neighbour,
+    size: Sides,
+    out: &mut [u8],
+)
+    requires { LiesIn view to x y size.width size.height × (length out.old ≡ size.width * size.height) }
+    ensures { out.new ≡ block_at view.entry to (pos x) (pos y) size.width size.height }
+{
+    form_lines::<false>(view, x, y, to, size, out);
 }

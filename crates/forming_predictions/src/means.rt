@@ -146,3 +146,37 @@ pub(crate) fn form_row(row: &[u8], below: &[u8], x: usize, dx: usize, dy: usize,
         (false, false) => two_row::<8>(row, below, x, dx, out),
     }
 }
+
+/// A row of fewer than eight.
+fn short_row(row: &[u8], below: &[u8], x: usize, dx: usize, out: &mut [u8])
+    requires { RowFits row.now below.now x dx (length out.old) }
+    ensures { out.new ≡ tabulate (length out.old) (four_of row.now below.now x dx) }
+{
+    let n = out.len();
+    let right = x + dx;
+    let e = x + n;
+    let f = right + n;
+    mean4_samples(
+        &row[x..e],
+        &row[right..f],
+        &below[x..e],
+        &below[right..f],
+        out,
+    );
+}
+
+/// A row of any width: the first eight and the last eight, which overlap; or fewer, in a loop that is unrolled since it is known to be
+/// short.
+pub(crate) fn any_row(row: &[u8], below: &[u8], x: usize, dx: usize, out: &mut [u8])
+    requires { RowFits row.now below.now x dx (length out.old) × (length out.old ≤ 16) }
+    ensures { out.new ≡ tabulate (length out.old) (four_of row.now below.now x dx) }
+{
+    let n = out.len();
+    if n < 8 {
+        short_row(row, below, x, dx, out);
+        return;
+    }
+    let m = n - 8;
+    four_eight(row, below, x, dx, &mut out[0..8]);
+    four_eight(row, below, x + m, dx, &mut out[m..n]);
+}

@@ -6,18 +6,18 @@ use Rattle.forming_predictions.specs.Forming.{block_of}
 use Rattle.forming_predictions.specs.inner.Views.{line_cell}
 use Rattle.forming_predictions.specs.inner.Blocks.{formed_at}
 use Rattle.forming_predictions.proofs.Blocks.{row_of_block}
-use Rattle.forming_predictions.proofs.narrow.form_any.Goals as goal
+use Rattle.forming_predictions.proofs.inside.form_lines.Goals as goal
 
 pub loop-r-init : goal.loop-r-init
-loop-r-init c = rows_none _ _ _ _ c.requires.1
+loop-r-init g c = rows_none _ _ _ _ c.requires.2
 
 pub loop-r-preserved : goal.loop-r-preserved
 unfolding line_cell
-loop-r-preserved c =
+loop-r-preserved g c =
     let a = c.args in
-    rows_step c.loop-r.invariant (omega arith) c.any_line.ensures
+    rows_step c.loop-r.invariant (omega arith) c.form_line.ensures
     (row_of_block (formed_at a.view a.to) (pos a.x) (pos a.y) a.size.width c.loop-r.r)
 
 pub returns : goal.returns
 unfolding block_of
-returns c = rows_all c.loop-r.invariant (omega arith)
+returns g c = rows_all c.loop-r.invariant (omega arith)

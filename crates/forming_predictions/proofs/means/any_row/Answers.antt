@@ -5,7 +5,7 @@ use borrow.Rule.Slice.PartMut.{put_mid}
 use Rattle.laws.proofs.Filled.{Filled}
 use Rattle.forming_predictions.specs.inner.Views.{four_of}
 use Rattle.forming_predictions.proofs.Eights.{eight, overlapped, four_next}
-use Rattle.forming_predictions.proofs.narrow.any_row.Goals as goal
+use Rattle.forming_predictions.proofs.means.any_row.Goals as goal
 
 pub returns : goal.returns
 returns c =

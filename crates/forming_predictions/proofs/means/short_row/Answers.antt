@@ -2,7 +2,7 @@
 -- Assumes nothing.
 use Rattle.std.proofs.Common.{◌∙◌}
 use Rattle.forming_predictions.proofs.RowMeans.{four_parts}
-use Rattle.forming_predictions.proofs.narrow.short_row.Goals as goal
+use Rattle.forming_predictions.proofs.means.short_row.Goals as goal
 
 pub returns : goal.returns
 returns c = c.mean4_samples.ensures ∙ four_parts c.requires
