@@ -40,16 +40,6 @@ pub rest_decides : {R A B : Type 0} (n m : Option R) (v : A) (w : B) {u : A} {a 
 rest_decides None m v w e f = f
 rest_decides (Some r) m v w e f = absurd cc
 
--- an answer of another value, with the same refusal
-pub refused_as : {R A B : Type 0} (n : Option R) (v : A) (w : B) {r : R} → Err r ≡ answered n v → Err r ≡ answered n w
-refused_as None v w e = absurd cc
-refused_as (Some r) v w e = cc
-
-pub accepted_as : {R A B : Type 0} (n : Option R) (v : A) (w : B) {u : A} → Ok u ≡ answered n v → Ok w ≡ answered n w
-accepted_as None v w e = refl
-accepted_as (Some r) v w e = absurd cc
-
--- chains may be bracketed either way
-pub or_else_assoc : {R : Type 0} (a b c : Option R) → or_else (or_else a b) c ≡ or_else a (or_else b c)
-or_else_assoc None b c = refl
-or_else_assoc (Some r) b c = refl
+-- a value that is given, where nothing is refused
+pub given : {R A : Type 0} {n : Option R} {v w : A} → n ≡ None → w ≡ v → Ok w ≡ answered n v
+given e f = rw (e, f)

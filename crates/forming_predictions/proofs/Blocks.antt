@@ -2,7 +2,7 @@
 -- Assumes nothing.
 use mathlib.Core.Path.{◌≡◌, refl, sym, ap, ◌∙◌}
 use mathlib.Core.Bool.{true, false}
-use mathlib.Core.List.{List, [], ◌∷◌}
+use mathlib.Core.List.{List}
 use Prim.Native.Nat.{ℕ, ◌+◌, ◌-◌, ◌*◌, ◌/◌, ◌%◌, ◌≤◌, ◌<◌}
 use native.Mathlib.Nat.{zero-add, add_assoc, zero-mul, one-mul, mul_comm, mul_assoc, mul-add, add-mul, mod-lt, div-lt_iff_lt-mul}
 use native.Mathlib.Omega.{arith}
@@ -20,9 +20,8 @@ use Rattle.laws.proofs.Parts.{part_length, part_at}
 use Rattle.forming_predictions.specs.Lines.{clamp_to}
 use Rattle.forming_predictions.specs.Means.{mean4}
 use Rattle.forming_predictions.specs.Forming.{block_of}
-use Rattle.forming_predictions.specs.inner.Views.{line_start, view_read, spread, two_of, four_of, clamped_of, line_cell, picked, column_at, inside_of, ViewFits, BlockFits, Inside, ColumnsFit, FetchFits}
+use Rattle.forming_predictions.specs.inner.Views.{line_start, view_read, spread, two_of, four_of, clamped_of, line_cell, picked, column_at, inside_of, ViewFits, SidesFit, Inside, ColumnsFit}
 use Rattle.forming_predictions.proofs.Lines.{clamp_in, clamp_lt}
-use Rattle.forming_predictions.proofs.Views.{empty_read}
 use Rattle.forming_predictions.proofs.RowMeans.{mean4_same, two_is_four}
 
 -- sample c of row r
@@ -190,23 +189,16 @@ columns_inside {columns} {w} n x e r k h =
     let l : length columns ≡ n = ap length e ∙ length_tab n (column_at w x) in
     rw (e, get_or_tab n (column_at w x) k 0 (omega arith)) (clamp_lt w (x +ℤ pos k) r)
 
-pub fetch_fits : {columns region : List ℕ} {w bw : ℕ} (x : ℤ) → columns ≡ tabulate (bw + 1) (column_at w x) → length region ≡ (bw + 1) * 17 → 0 < w
-    → FetchFits columns region w bw
-fetch_fits {columns} {region} {w} {bw} x e r p =
-    record {
-      columns_count = ap length e ∙ length_tab (bw + 1) (column_at w x);
-      region_count = r;
-      inside = columns_inside (bw + 1) x e p;
-    }
+pub columns_fit : {columns : List ℕ} {w : ℕ} (n : ℕ) (x : ℤ) → columns ≡ tabulate n (column_at w x) → 0 < w → ColumnsFit columns w
+columns_fit n x e p = record { inside = columns_inside n x e p }
 
 -- and what is picked in them is what the view reads
 pub picked_block : (s : List ℕ) {columns : List ℕ} (w first step count n : ℕ) (x y : ℤ) (h : ℕ) → columns ≡ tabulate n (column_at w x) → 0 < n
-    → tabulate (length columns * h) (λ (k : ℕ). picked s w first step count columns (y +ℤ pos (k / length columns)) (k % length columns))
+    → tabulate (n * h) (λ (k : ℕ). picked s w first step count columns (y +ℤ pos (k / n)) (k % n))
     ≡ block_of n h (view_read s w first step count) x y
 unfolding block_of picked view_read column_at
 picked_block s {columns} w first step count n x y h e p =
-    let l : length columns ≡ n = ap length e ∙ length_tab n (column_at w x) in
-    rw (l, e) (tab_ext (n * h) _ _ (λ k q. rw (get_or_tab n (column_at w x) (k % n) 0 (mod-lt k p))))
+    rw e (tab_ext (n * h) _ _ (λ k q. rw (get_or_tab n (column_at w x) (k % n) 0 (mod-lt k p))))
 
 -- four reads that agree give one mean
 spread_cong : (f g : ℤ → ℤ → ℕ) (a b c d : ℤ) (dx dy : ℕ)
@@ -223,16 +215,16 @@ spread_cong f g a b c d dx dy p q r t = rw (p, q, r, t)
 pub block_row : (w h k : ℕ) → 0 < w → k < w * h → k / w < h
 block_row w h k p q = (div-lt_iff_lt-mul p).1 (rw (mul_comm h w) q)
 
-pub region_view : {dx dy bw bh : ℕ} {o : List ℕ} (region : List ℕ) → BlockFits dx dy bw bh o → length region ≡ (bw + dx) * (bh + dy)
+pub region_view : {dx dy bw bh : ℕ} (region : List ℕ) → (dx ≤ 1) × (dy ≤ 1) → SidesFit bw bh → length region ≡ (bw + dx) * (bh + dy)
     → ViewFits region (bw + dx) 0 1 (bh + dy)
-region_view {dx} {dy} {bw} {bh} region b e =
+region_view {dx} {dy} {bw} {bh} region n b e =
     record {
       some = omega (arith, b.some);
-      wide = omega (arith, b.wide, b.right);
+      wide = omega (arith, b.wide, n.0);
       low = omega arith;
       apart = omega arith;
       lines = omega (arith, b.tall);
-      high = omega (arith, b.high, b.down);
+      high = omega (arith, b.high, n.1);
       room = λ j i. rw (zero-add (1 * j), one-mul j) (omega (arith, e, row_in j (bh + dy) (bw + dx) i));
     }
 
@@ -326,18 +318,3 @@ front_tab m n f h =
     let all : n ≡ m + (n - m) = omega arith in
     let here : m - 0 ≡ m = omega arith in
     rw (here, all, ← tab_append m (n - m) f) (take_at (tabulate m f) _ m (length_tab m f))
-
--- ---- a view without samples reads as one of a single 0
-zero_read : (x y : ℤ) → view_read (0 ∷ []) 1 0 1 1 x y ≡ 0
-unfolding view_read
-zero_read x y =
-    let line : line_start 0 1 1 (clamp_to 1 y) + clamp_to 1 x ≡ 0 = omega (arith, clamp_lt 1 x (omega arith), clamp_lt 1 y (omega arith)) in
-    rw line
-
-pub empty_block : (s : List ℕ) (w first step count : ℕ) (x y : ℤ) (dx dy bw bh : ℕ) → length s ≡ 0
-    → block_of bw bh (λ (a b : ℤ). spread (view_read (0 ∷ []) 1 0 1 1) a b dx dy) x y
-    ≡ block_of bw bh (λ (a b : ℤ). spread (view_read s w first step count) a b dx dy) x y
-empty_block s w first step count x y dx dy bw bh e =
-    let same : (a b : ℤ) → view_read (0 ∷ []) 1 0 1 1 a b ≡ view_read s w first step count a b =
-    λ a b. zero_read a b ∙ sym (empty_read s w first step count a b e) in
-    block_ext bw bh _ _ x y (λ a b. spread_cong _ _ a b a b dx dy (same _ _) (same _ _) (same _ _) (same _ _))

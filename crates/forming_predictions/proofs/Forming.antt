@@ -3,23 +3,23 @@
 use mathlib.Core.Path.{◌≡◌, refl, sym, ap, ◌∙◌}
 use mathlib.Core.Bool.{Bool, true, false}
 use mathlib.Core.List.{List}
-use Prim.Native.Nat.{ℕ, ◌*◌, ◌/◌, ◌%◌, ◌<◌}
+use Prim.Native.Nat.{ℕ, zero, suc, ◌*◌, ◌/◌, ◌%◌}
 use native.Mathlib.Omega.{arith}
 use lib.IntN.{ℤ, pos, ◌+ℤ◌}
-use lib.ListN.{length}
+use lib.ListN.{replicate}
 use mir.Syntax.{w32}
 use mir.Val.{SFits}
 use Rattle.laws.proofs.Signed.{eq_z, add_z}
 use Rattle.laws.proofs.Bounded.{Within, within_add, within_fits, fits_within}
+use Rattle.laws.specs.Tabulate.{tabulate}
 use Rattle.laws.proofs.Tabulated.{tab_ext}
 use Rattle.forming_predictions.specs.Splitting.{floor_half, half_flag}
 use Rattle.forming_predictions.specs.Lines.{Lines, sample_at}
 use Rattle.forming_predictions.specs.Means.{Means, rounded}
 use Rattle.forming_predictions.specs.Forming.{combined, formed, block_of}
-use Rattle.forming_predictions.specs.inner.Views.{view_read, spread, bit_of, Reach, ReadsAs, rows_sample}
-use Rattle.forming_predictions.specs.declared.Rows.{Rows}
+use Rattle.forming_predictions.specs.inner.Views.{spread, bit_of, Reach}
 use Rattle.forming_predictions.proofs.Splitting.{floor_within}
-use Rattle.forming_predictions.proofs.Views.{rows_sample_lem, some_sample, no_sample, rows_read}
+use Rattle.forming_predictions.proofs.Views.{no_sample}
 use Rattle.forming_predictions.proofs.RowMeans.{mean4_same, mean4_pair, mean4_twice}
 use Rattle.forming_predictions.proofs.Blocks.{plus_none, block_ext}
 
@@ -64,29 +64,17 @@ moved_block read bw bh x y h v =
     (λ k p. rw (swap x (floor_half h) (k % bw), swap y (floor_half v) (k / bw))
     (sym (formed_spread read (x +ℤ pos (k % bw)) (y +ℤ pos (k / bw)) h v)))
 
--- ---- from rows to lines, and from rows to a view
-pub lines_formed : {l : Lines} {height : ℕ} {r : Rows} → ReadsAs l height r → (w : ℕ) (s : List ℕ) (x y h v : ℤ)
-    → formed rounded (rows_sample r w height s) x y h v ≡ formed rounded (sample_at l w height s) x y h v
-lines_formed {l} {height} {r} f w s x y h v = formed_ext rounded _ _ x y h v (λ a b. rows_sample_lem l height r f w s a b)
+-- ---- from a view to the lines that it reads
+module _ (read sample : ℤ → ℤ → ℕ) (e : (a b : ℤ) → read a b ≡ sample a b) where
+  pub view_formed : (x y h v : ℤ)
+      → spread read (x +ℤ floor_half h) (y +ℤ floor_half v) (bit_of (half_flag h)) (bit_of (half_flag v)) ≡ formed rounded sample x y h v
+  view_formed x y h v = sym (formed_spread read x y h v) ∙ formed_ext rounded read sample x y h v e
 
-pub lines_block : {l : Lines} {height : ℕ} {r : Rows} → ReadsAs l height r → (w : ℕ) (s : List ℕ) (bw bh : ℕ) (x y h v : ℤ)
-    → block_of bw bh (λ (a b : ℤ). formed rounded (rows_sample r w height s) a b h v) x y
-    ≡ block_of bw bh (λ (a b : ℤ). formed rounded (sample_at l w height s) a b h v) x y
-lines_block f w s bw bh x y h v = block_ext bw bh _ _ x y (λ a b. lines_formed f w s a b h v)
-
--- a plane with samples
-pub view_formed : (r : Rows) (w height : ℕ) (s : List ℕ) (x y h v : ℤ) → 0 < w → 0 < height
-    → spread (view_read s w r.first r.step r.count) (x +ℤ floor_half h) (y +ℤ floor_half v) (bit_of (half_flag h)) (bit_of (half_flag v))
-    ≡ formed rounded (rows_sample r w height s) x y h v
-view_formed r w height s x y h v p q =
-    sym (formed_spread _ x y h v) ∙ formed_ext rounded _ _ x y h v (λ a b. sym (some_sample r w height s a b p q))
-
-pub view_block_lem : (r : Rows) (w height : ℕ) (s : List ℕ) (bw bh : ℕ) (x y h v : ℤ) → length s ≡ w * height
-    → block_of bw bh (λ (a b : ℤ). spread (view_read s w r.first r.step r.count) a b (bit_of (half_flag h)) (bit_of (half_flag v))) (x +ℤ floor_half h) (y +ℤ floor_half v)
-    ≡ block_of bw bh (λ (a b : ℤ). formed rounded (rows_sample r w height s) a b h v) x y
-view_block_lem r w height s bw bh x y h v e =
-    moved_block _ bw bh x y h v
-    ∙ block_ext bw bh _ _ x y (λ a b. formed_ext rounded _ _ a b h v (λ c d. sym (rows_read r w height s c d e)))
+  pub view_block : (bw bh : ℕ) (x y h v : ℤ)
+      → block_of bw bh (λ (a b : ℤ). spread read a b (bit_of (half_flag h)) (bit_of (half_flag v))) (x +ℤ floor_half h) (y +ℤ floor_half v)
+      ≡ block_of bw bh (λ (a b : ℤ). formed rounded sample a b h v) x y
+  view_block bw bh x y h v =
+      moved_block read bw bh x y h v ∙ block_ext bw bh _ _ x y (λ a b. formed_ext rounded read sample a b h v e)
 
 -- a plane without: every mean of zeros is 0
 zero_combined : (x y : ℤ) (p q : Bool) → combined rounded (λ (a b : ℤ). 0) x y p q ≡ 0
@@ -100,10 +88,21 @@ zero_formed : (x y h v : ℤ) → formed rounded (λ (a b : ℤ). 0) x y h v ≡
 unfolding formed
 zero_formed x y h v = zero_combined (x +ℤ floor_half h) (y +ℤ floor_half v) (half_flag h) (half_flag v)
 
-pub empty_formed : (r : Rows) (w height : ℕ) (s : List ℕ) (x y h v : ℤ) → w * height ≡ 0
-    → formed rounded (rows_sample r w height s) x y h v ≡ 0
-empty_formed r w height s x y h v e =
-    formed_ext rounded _ (λ (a b : ℤ). 0) x y h v (λ a b. no_sample r w height s a b e) ∙ zero_formed x y h v
+pub empty_formed : (l : Lines) (w height : ℕ) (s : List ℕ) (x y h v : ℤ) → w * height ≡ 0
+    → formed rounded (sample_at l w height s) x y h v ≡ 0
+empty_formed l w height s x y h v e =
+    formed_ext rounded _ (λ (a b : ℤ). 0) x y h v (λ a b. no_sample l w height s a b e) ∙ zero_formed x y h v
+
+zeros : (n : ℕ) (f : ℕ → ℕ) → ((k : ℕ) → f k ≡ 0) → replicate n 0 ≡ tabulate n f
+unfolding tabulate
+zeros zero f e = refl
+zeros (suc n) f e = rw (e 0, zeros n (λ (k : ℕ). f (suc k)) (λ k. e (suc k)))
+
+pub empty_block : (l : Lines) (w height : ℕ) (s : List ℕ) (n bw bh : ℕ) (x y h v : ℤ) → w * height ≡ 0 → n ≡ bw * bh
+    → replicate n 0 ≡ block_of bw bh (λ (a b : ℤ). formed rounded (sample_at l w height s) a b h v) x y
+unfolding block_of
+empty_block l w height s n bw bh x y h v e m =
+    rw m (zeros (bw * bh) _ (λ k. empty_formed l w height s (x +ℤ pos (k % bw)) (y +ℤ pos (k / bw)) h v e))
 
 -- ---- a position moved by a vector's whole part can be stepped on from
 pub moved_reach : {x v : ℤ} → Within 32782 x → SFits w32 v → Reach (x +ℤ floor_half v)

@@ -2,6 +2,7 @@
 pub mod Splitting
 pub mod Lines
 pub mod Views
+pub mod ViewRows
 pub mod RowMeans
 pub mod Pairs
 pub mod Blocks

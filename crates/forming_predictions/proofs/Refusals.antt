@@ -2,7 +2,7 @@
 -- Assumes nothing.
 use mathlib.Core.Path.{◌≡◌, refl, sym, ◌∙◌}
 use mathlib.Core.Bool.{Bool, true, false, not, ◌&&◌}
-use Prim.Native.Nat.{ℕ, zero, suc, ◌*◌, ◌≤◌, ◌<◌}
+use Prim.Native.Nat.{ℕ, ◌*◌, ◌≤◌, ◌<◌}
 use native.Mathlib.Nat.{mul-le-mul}
 use native.Mathlib.Omega.{arith}
 use lib.Dec.{leb, eqb}
@@ -16,8 +16,8 @@ use Rattle.laws.proofs.Bounded.{Within}
 use Rattle.laws.proofs.Tests.{both, range}
 use Rattle.std.specs.Prelude.{Option, Some, None}
 use Rattle.combine_predictions.specs.Refusals.{cause, or_else}
-use Rattle.forming_predictions.specs.declared.FormingRefusal.{FormingRefusal}
 use Rattle.forming_predictions.specs.declared.FormingRefusal.TheVariants.{OutsideDomain, WrongLength}
+use Rattle.forming_predictions.specs.inner.Views.{SidesFit}
 use Rattle.forming_predictions.specs.Refusals.{plane_fits, position_fits, block_side_fits, last_sample, last_block, plane_refusal, position_refusal, sample_refusal, block_refusal}
 
 -- ---- chains: what it says that nothing is refused
@@ -48,6 +48,10 @@ fitting_plane_lem w h n e =
 
 pub plane_right : (w h n : ℕ) → plane_refusal w h n ≡ None → PlaneRight w h n
 plane_right w h n e = fitting_plane_lem w h n (no_cause (plane_fits w h n) OutsideDomain e)
+
+pub plane_none : {w h n : ℕ} → PlaneRight w h n → plane_refusal w h n ≡ None
+unfolding plane_fits
+plane_none {w} {h} {n} p = rw (le-leb w 16384 p.wide, le-leb h 16384 p.high, eq-eqb n (w * h) p.count)
 
 -- a position that fits is at most 32,782 from 0
 position_within : (last : ℕ) (p : ℤ) → last ≤ 32782 → position_fits (pos last) p ≡ true → Within 32782 p
@@ -86,10 +90,7 @@ pub record BlockRight (w h n : ℕ) (x y : ℤ) (bw bh o : ℕ) : Type 0 where
   pub plane : PlaneRight w h n
   pub at_x : Within 32782 x
   pub at_y : Within 32782 y
-  pub some : 0 < bw
-  pub wide : bw ≤ 16
-  pub tall : 0 < bh
-  pub high : bh ≤ 16
+  pub sides : SidesFit bw bh
   pub room : o ≡ bw * bh
 
 pub block_right : (w h n : ℕ) (x y : ℤ) (bw bh o : ℕ) → block_refusal w h n x y bw bh o ≡ None → BlockRight w h n x y bw bh o
@@ -107,10 +108,13 @@ block_right w h n x y bw bh o e =
       plane = plane_right w h n (none_first c1 (or_else c2 (or_else c3 c4)) e);
       at_x = p.0;
       at_y = p.1;
-      some = (side_range bw s.0).0;
-      wide = (side_range bw s.0).1;
-      tall = (side_range bh s.1).0;
-      high = (side_range bh s.1).1;
+      sides =
+          record {
+            some = (side_range bw s.0).0;
+            wide = (side_range bw s.0).1;
+            tall = (side_range bh s.1).0;
+            high = (side_range bh s.1).1;
+          };
       room = eqb-true o (bw * bh) (no_cause (eqb o (bw * bh)) WrongLength (none_second c3 c4 t2));
     }
 

@@ -68,3 +68,7 @@ two_is_four row below x dx (suc dy) k p q r e =
     flat zero dy p q r = refl
     flat (suc zero) dy p q r = absurd (r (omega arith))
     flat (suc (suc dx)) dy p q r = absurd (omega arith)
+
+pub fours_of_two : (row below : List ℕ) (x dx : ℕ) {dy n m : ℕ} → m ≡ n → dx ≤ 1 → dy ≤ 1 → (dx + dy ≡ 2 → ⊥) → (dy ≡ 0 → below ≡ row)
+    → tabulate n (two_of row below x dx) ≡ tabulate m (four_of row below x dx)
+fours_of_two row below x dx {dy} {n} l p q r e = rw l (tab_ext n _ _ (λ k h. two_is_four row below x dx dy k p q r e))

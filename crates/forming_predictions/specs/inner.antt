@@ -1,3 +1,4 @@
 -- What private contracts speak of. Nothing of it need be believed: the public promises are proved from it. Nothing here is from the
 -- standard or from docs/SCOPE.md.
 pub mod Views
+pub mod Blocks

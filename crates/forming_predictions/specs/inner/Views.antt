@@ -1,13 +1,11 @@
 -- A view of a plane's rows as lines: line 0 is row `first`, and lines are `step` rows apart. A frame and its fields are views, and so is
 -- a block that was copied out of one. For private contracts alone: that a view reads as 7.6.4 and docs/SCOPE.md say is proved.
-use Rattle.std.specs.Prelude.{◌≡◌, Bool, true, false, ◌||◌, cond, List, ℕ, ◌+◌, ◌*◌, ◌%◌, ◌≤◌, ◌<◌, eqb, leb, ℤ, pos, negsuc, ◌+ℤ◌, length, get_or}
+use Rattle.std.specs.Prelude.{◌≡◌, Bool, true, false, List, ℕ, ◌+◌, ◌*◌, ◌%◌, ◌≤◌, ◌<◌, leb, ℤ, pos, negsuc, ◌+ℤ◌, length, get_or}
 use Rattle.std.specs.Int.{w32}
 use Rattle.std.proofs.Common.{SFits}
 use Rattle.combine_predictions.specs.Averaging.{mean2}
-use Rattle.forming_predictions.specs.Lines.{Lines, clamp_to, row_of}
+use Rattle.forming_predictions.specs.Lines.{clamp_to}
 use Rattle.forming_predictions.specs.Means.{mean4}
-use Rattle.forming_predictions.specs.Forming.{block_of}
-use Rattle.forming_predictions.specs.declared.Rows.{Rows}
 
 -- the place of line j's first sample, in rows of w samples
 abbrev pub line_start : ℕ → ℕ → ℕ → ℕ → ℕ
@@ -54,11 +52,6 @@ picked samples w first step count columns y k =
 unfoldable pub column_at : ℕ → ℤ → ℕ → ℕ
 column_at w x k = clamp_to w (x +ℤ pos k)
 
--- a block of a view, each sample spread by (dx, dy)
-abbrev pub view_block : List ℕ → ℕ → ℕ → ℕ → ℕ → ℤ → ℤ → ℕ → ℕ → ℕ → ℕ → List ℕ
-view_block samples w first step count x y dx dy bw bh =
-    block_of bw bh (λ (a b : ℤ). spread (view_read samples w first step count) a b dx dy) x y
-
 -- whether n places from a coordinate on lie below a limit
 unfoldable pub inside_of : ℤ → ℕ → ℕ → Bool
 inside_of (pos a) n limit = leb (a + n) limit
@@ -79,26 +72,18 @@ pub record ViewFits (samples : List ℕ) (w first step count : ℕ) : Type 0 whe
   pub high : count ≤ 16384
   pub room : (j : ℕ) → j < count → line_start first step w j + w ≤ length samples
 
--- a view, or no samples
-pub record Readable (samples : List ℕ) (w first step count : ℕ) : Type 0 where
-  pub view : 0 < length samples → ViewFits samples w first step count
-  pub some : 0 < w → 0 < count → 0 < length samples
-
 -- 8 or 16
 pub record Eights (n : ℕ) : Type 0 where
   pub some : 8 ≤ n
   pub wide : n ≤ 16
   pub even : n % 8 ≡ 0
 
--- steps to a neighbour, a block's sides, and a buffer that holds it
-pub record BlockFits (dx dy bw bh : ℕ) (o : List ℕ) : Type 0 where
-  pub right : dx ≤ 1
-  pub down : dy ≤ 1
+-- a block's sides
+pub record SidesFit (bw bh : ℕ) : Type 0 where
   pub some : 0 < bw
   pub wide : bw ≤ 16
   pub tall : 0 < bh
   pub high : bh ≤ 16
-  pub count : length o ≡ bw * bh
 
 -- n samples from column x on, and their right neighbours, lie in two rows
 pub record RowFits (row below : List ℕ) (x dx n : ℕ) : Type 0 where
@@ -110,23 +95,9 @@ pub record Inside (w count x y dx dy bw bh : ℕ) : Type 0 where
   pub right : x + dx + bw ≤ w
   pub below : y + dy + bh ≤ count
 
--- 8 or 16 columns, or one more, inside a row
+-- columns inside a row
 pub record ColumnsFit (columns : List ℕ) (w : ℕ) : Type 0 where
-  pub some : 8 ≤ length columns
-  pub few : length columns ≤ 17
-  pub even : length columns % 8 ≤ 1
   pub inside : (k : ℕ) → k < length columns → get_or columns k 0 < w
-
--- the columns and the room for samples that a block of bw columns may need
-pub record FetchFits (columns region : List ℕ) (w bw : ℕ) : Type 0 where
-  pub columns_count : length columns ≡ bw + 1
-  pub region_count : length region ≡ (bw + 1) * 17
-  pub inside : (k : ℕ) → k < length columns → get_or columns k 0 < w
-
--- the columns and the room for samples that a block reads
-pub record RegionFits (columns region : List ℕ) (dx dy bw bh : ℕ) : Type 0 where
-  pub columns_count : length columns ≡ bw + dx
-  pub region_count : length region ≡ (bw + dx) * (bh + dy)
 
 -- a coordinate from which n steps can be made
 pub record Steps (n : ℕ) (z : ℤ) : Type 0 where
@@ -136,21 +107,3 @@ pub record Steps (n : ℕ) (z : ℤ) : Type 0 where
 -- as many as a block asks for
 abbrev pub Reach : ℤ → Type 0
 Reach z = Steps 17 z
-
--- the rows of a plane of h rows: none is outside it
-pub record RowsFit (r : Rows) (h : ℕ) : Type 0 where
-  pub low : r.first ≤ 1
-  pub apart : r.step ≤ 2
-  pub few : r.count ≤ h
-  pub some : 0 < h → 0 < r.count
-  pub inside : (j : ℕ) → j < r.count → r.first + r.step * j < h
-
--- and they are the ones that `l` reads
-pub record ReadsAs (l : Lines) (h : ℕ) (r : Rows) : Type 0 where
-  pub fits : RowsFit r h
-  pub same : (y : ℤ) → r.first + r.step * clamp_to r.count y ≡ row_of l h y
-
--- the sample that (x, y) reads, 0 in an empty plane
-unfoldable pub rows_sample : Rows → ℕ → ℕ → List ℕ → ℤ → ℤ → ℕ
-rows_sample r w h samples x y =
-    cond (eqb w 0 || eqb h 0) 0 (view_read samples w r.first r.step r.count x y)

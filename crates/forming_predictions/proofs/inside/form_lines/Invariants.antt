@@ -1,0 +1,12 @@
+-- After r turns the first r rows are in place.
+-- Assumes nothing.
+use Rattle.std.proofs.Common.{ℕ, ◌/◌, ◌%◌, pos, ◌+ℤ◌}
+use Rattle.laws.proofs.Rows.{RowsFilled}
+use Rattle.forming_predictions.specs.inner.Blocks.{formed_at}
+use Rattle.forming_predictions.proofs.inside.form_lines.Given as goal
+
+abbrev pub invariant-loop-r : goal.invariant-loop-r
+invariant-loop-r g l =
+    RowsFilled
+    (λ (k : ℕ). formed_at l.view l.to (pos l.x +ℤ pos (k % l.size.width)) (pos l.y +ℤ pos (k / l.size.width)))
+    l.initial.out l.size.width l.size.height l.r l.out

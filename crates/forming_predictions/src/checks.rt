@@ -1,0 +1,72 @@
+//! What the calls refuse.
+
+ghost use Rattle.std.specs.Prelude.{◌≡◌, not, length};
+ghost use Rattle.combine_predictions.specs.Refusals.{cause, answered};
+ghost use Rattle.forming_predictions.specs.declared.FormingRefusal.TheVariants.{OutsideDomain};
+ghost use Rattle.forming_predictions.specs.Refusals.{position_fits, block_side_fits, plane_refusal, sample_refusal, block_refusal};
+
+use crate::{
+    BlockSize, FIRST_POSITION, FormingRefusal, LARGEST_BLOCK_SIDE, LAST_BLOCK, LAST_SAMPLE,
+    ReferencePlane, plane_fits,
+};
+
+/// `&` and not `&&`: both tests are made, and there is one path.
+fn position_fits(last: i32, position: i32) -> bool
+    ensures { result ≡ position_fits last position }
+{
+    (FIRST_POSITION <= position) & (position <= last)
+}
+
+fn block_side_fits(side: usize) -> bool
+    ensures { result ≡ block_side_fits side }
+{
+    (1 <= side) & (side <= LARGEST_BLOCK_SIDE)
+}
+
+/// Refuses what does not fit the domain.
+fn check_domain(fits: bool) -> Result<(), FormingRefusal>
+    ensures { result ≡ answered (cause (not fits) OutsideDomain) tt }
+{
+    if fits {
+        return Ok(());
+    }
+    Err(FormingRefusal::OutsideDomain)
+}
+
+pub(crate) fn check_plane(plane: ReferencePlane, count: usize) -> Result<(), FormingRefusal>
+    ensures { result ≡ answered (plane_refusal plane.width plane.height count) tt }
+{
+    check_domain(plane_fits(plane, count))
+}
+
+pub(crate) fn check_sample(
+    plane: ReferencePlane,
+    count: usize,
+    x: i32,
+    y: i32,
+) -> Result<(), FormingRefusal>
+    ensures { result ≡ answered (sample_refusal plane.width plane.height count x y) tt }
+{
+    check_domain(
+        plane_fits(plane, count) & (position_fits(LAST_SAMPLE, x) & position_fits(LAST_SAMPLE, y)),
+    )
+}
+
+pub(crate) fn check_block(
+    plane: ReferencePlane,
+    count: usize,
+    x: i32,
+    y: i32,
+    size: BlockSize,
+    room: usize,
+) -> Result<(), FormingRefusal>
+    ensures { result ≡ answered (block_refusal plane.width plane.height count x y size.width size.height room) tt }
+{
+    let sides = block_side_fits(size.width) & block_side_fits(size.height);
+    let positions = position_fits(LAST_BLOCK, x) & position_fits(LAST_BLOCK, y);
+    check_domain(plane_fits(plane, count) & (sides & positions))?;
+    if room != size.width * size.height {
+        return Err(FormingRefusal::WrongLength);
+    }
+    Ok(())
+}

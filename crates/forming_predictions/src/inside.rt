@@ -1,0 +1,145 @@
+//! Blocks whose reads all lie inside a view: nothing is clamped.
+
+ghost use Rattle.std.specs.Prelude.{◌≡◌, true, ℕ, ◌+◌, ◌*◌, ◌/◌, ◌%◌, ◌≤◌, pos, length};
+ghost use Rattle.laws.specs.Tabulate.{tabulate};
+ghost use Rattle.forming_predictions.specs.inner.Views.{two_of, Eights, inside_of};
+ghost use Rattle.forming_predictions.specs.inner.Blocks.{cell_at, block_at, LiesIn};
+
+use crate::means::{any_row, form_row, two_row};
+use crate::view::{Neighbour, Sides, View};
+
+/// Whether n places from `position` on lie below the limit.
+pub(crate) fn is_inside(position: i32, n: usize, limit: usize) -> bool
+    requires { n ≤ 17 }
+    ensures { result ≡ inside_of position n limit }
+{
+    if position < 0 {
+        return false;
+    }
+    position as usize + n <= limit
+}
+
+/// A row of a block from line y on: of 8 or 16 samples, or of any number.
+fn form_line<const EIGHTS: bool>(
+    view: View<'_>,
+    x: usize,
+    y: usize,
+    to: Neighbour,
+    out: &mut [u8],
+)
+    requires { LiesIn view to x y (length out.old) 1 × (EIGHTS ≡ true → Eights (length out.old)) × (length out.old ≤ 16) }
+    ensures { out.new ≡ tabulate (length out.old) (cell_at view.entry to (pos x) (pos y)) }
+{
+    let row = view.row(y);
+    let below = view.row(y + to.below);
+    if EIGHTS {
+        form_row(row, below, x, to.right, to.below, out);
+        return;
+    }
+    any_row(row, below, x, to.right, out);
+}
+
+/// A block of 8 or 16 columns, or of any number.
+fn form_lines<const EIGHTS: bool>(
+    view: View<'_>,
+    x: usize,
+    y: usize,
+    to: Neighbour,
+    size: Sides,
+    out: &mut [u8],
+)
+    requires { LiesIn view to x y size.width size.height × (EIGHTS ≡ true → Eights size.width) × (length out.old ≡ size.width * size.height) }
+    ensures { out.new ≡ block_at view.entry to (pos x) (pos y) size.width size.height }
+{
+    for r in 0..size.height {
+        let o = r * size.width;
+        let e = o + size.width;
+        form_line::<EIGHTS>(view, x, y + r, to, &mut out[o..e]);
+    }
+}
+
+/// Eight rows of eight, of two samples each: one of a row of the plane, the other `dx` columns to the right in the row that starts `gap`
+/// places after it. The plane's rows are handed on as parts of its bytes, from `start` on, `stride` places apart. The number of rows is
+/// fixed, so that the loop is unrolled.
+fn two_square(
+    samples: &[u8],
+    width: usize,
+    start: usize,
+    gap: usize,
+    stride: usize,
+    x: usize,
+    dx: usize,
+    out: &mut [u8],
+)
+    requires { (start + 7 * stride + gap + width ≤ length samples.now) × (stride ≤ 32768) × (x + dx + 8 ≤ width) × (length out.old ≡ 64) }
+    ensures { out.new ≡ tabulate 64 (λ (k : ℕ). two_of samples.now samples.now (start + k / 8 * stride + x) (gap + dx) (k % 8)) }
+{
+    let mut a = start;
+    for r in 0..8 {
+        let b = a + gap;
+        let e = a + width;
+        let f = b + width;
+        let o = r * 8;
+        let p = o + 8;
+        two_row::<8>(&samples[a..e], &samples[b..f], x, dx, &mut out[o..p]);
+        a += stride;
+    }
+}
+
+/// A block of 8 × 8, unless both steps are 1. Where both are 0, the compiler sees that the two samples are one, and copies.
+fn form_square(view: View<'_>, x: usize, y: usize, to: Neighbour, out: &mut [u8])
+    requires { LiesIn view to x y 8 8 × (to.right + to.below ≤ 1) × (length out.old ≡ 64) }
+    ensures { out.new ≡ block_at view.entry to (pos x) (pos y) 8 8 }
+{
+    let start = view.start(y);
+    let stride = view.step * view.width;
+    if to.right + to.below == 0 {
+        two_square(view.samples, view.width, start, 0, stride, x, 0, out);
+        return;
+    }
+    two_square(
+        view.samples,
+        view.width,
+        start,
+        to.below * stride,
+        stride,
+        x,
+        to.right,
+        out,
+    );
+}
+
+/// A block of 8 or 16 columns.
+pub(crate) fn form_inside(
+    view: View<'_>,
+    x: usize,
+    y: usize,
+    to: Neighbour,
+    size: Sides,
+    out: &mut [u8],
+)
+    requires { LiesIn view to x y size.width size.height × Eights size.width × (length out.old ≡ size.width * size.height) }
+    ensures { out.new ≡ block_at view.entry to (pos x) (pos y) size.width size.height }
+{
+    if ((size.width == 8) & (size.height == 8)) & (to.right + to.below <= 1) {
+        form_square(view, x, y, to, out);
+        return;
+    }
+    form_lines::<true>(view, x, y, to, size, out);
+}
+
+/// A block of any number of columns.
+#[inline(never)]
+pub(crate) fn form_any(
+    view: View<'_>,
+    x: usize,
+    y: usize,
+    to: Neighbour,
+    size: Sides,
+    out: &mut [u8],
+)
+    requires { LiesIn view to x y size.width size.height × (length out.old ≡ size.width * size.height) }
+    ensures { out.new ≡ block_at view.entry to (pos x) (pos y) size.width size.height }
+{
+    form_lines::<false>(view, x, y, to, size, out);
+}
