@@ -3,7 +3,7 @@
 use mathlib.Core.Path.{◌≡◌, refl, sym, subst}
 use mathlib.Core.Bool.{Bool, true, false, ◌||◌, cond}
 use mathlib.Core.List.{List, [], ◌∷◌, map}
-use mathlib.Core.Option.{Option, none, some}
+use Rattle.std.specs.Prelude.{Option, Some, None}
 use Prim.Native.Nat.{ℕ, zero, suc, ◌*◌, ◌-◌, ◌^◌, ◌≤◌}
 use native.Mathlib.Nat.{mul-zero}
 use native.Mathlib.Omega.{arith}
@@ -42,8 +42,8 @@ module _ (g : FrameGeometry) (k : ℕ) (st xt : Pictures) (p : Beside k st xt) w
   source : (n : ℕ) → n ≤ k → (r : Option ℕ) → Lower n r → (c : ColourComponent)
       → Alike (Read (8 ^ (n - 1)) (n - 1)) (read_reference (reference g r) (reference_samples st r) c) (unrounded_reading g n xt r c)
   unfolding sample_at
-  source n h none t c l x y = read_zero (8 ^ (n - 1)) (n - 1)
-  source n h (some j) t c l x y =
+  source n h None t c l x y = read_zero (8 ^ (n - 1)) (n - 1)
+  source n h (Some j) t c l x y =
       read_at (n - 1) j (omega (arith, t)) (omega (arith, t)) c l x y (eqb (plane_of (fitting g) c).width 0 || eqb (plane_of (fitting g) c).height 0)
 
   module _ (s : Step) (r : InRange k s) where
@@ -65,10 +65,10 @@ module _ (g : FrameGeometry) (k : ℕ) (st xt : Pictures) (p : Beside k st xt) w
     near_at true m e c h = subst (λ (x : ℕ). Related (Drifted x) (placement g s st c) (unrounded_placement g s xt c)) (sym (e tt)) (new_near c)
     near_at false m e c h = p m c h
 
-    by_table : (t : ℕ)
+    by_table : (t : Option ℕ)
         → Beside k (unless_refused t (replaced st s.target (placement g s st)) st) (unless_refused t (replaced xt s.target (unrounded_placement g s xt)) xt)
-    by_table zero m c h = near_at (eqb m s.target) m (eqb→eq m s.target) c h
-    by_table (suc t) m c h = p m c h
+    by_table None m c h = near_at (eqb m s.target) m (eqb→eq m s.target) c h
+    by_table (Some t) m c h = p m c h
 
 step-near : (g : FrameGeometry) (k : ℕ) (st xt : Pictures) → Fitting g k st → Beside k st xt → (s : Step) → InRange k s
     → Beside k (after_step g s st) (after_unrounded g s xt)

@@ -2,7 +2,8 @@
 -- Assumes nothing.
 use mathlib.Core.Path.{◌≡◌, refl, ap, ◌∙◌, fun_ext}
 use mathlib.Core.Bool.{Bool, true, false, cond}
-use mathlib.Core.Option.{Option, none, some}
+use Rattle.std.specs.Prelude.{Option, Some, None}
+use Rattle.std.specs.Option.{option_map}
 use Prim.Native.Nat.{ℕ, zero, suc, ◌≤◌}
 use native.Mathlib.Omega.{arith}
 use lib.Dec.{eqb}
@@ -13,10 +14,12 @@ use Rattle.pmv.specs.declared.kinds.ChromaFormat.{ChromaFormat}
 use Rattle.inter_reconstruction.specs.Components.{ColourComponent, macroblock_bytes}
 use Rattle.inter_reconstruction.specs.Frames.{lengths_of, PlaneReading}
 use Rattle.inter_reconstruction.specs.Macroblock.{macroblock, predicted}
-use Rattle.inter_reconstruction.specs.Refusals.{planes_refusal, references_refusal, prediction_refusal}
-use Rattle.inter_reconstruction.specs.Placing.{placing_refusal}
+use Rattle.inter_reconstruction.specs.Refusals.{prediction_number, planes_refusal, references_refusal, prediction_refusal}
+use Rattle.inter_reconstruction.specs.Placing.{placing_number, placing_refusal}
 use Rattle.inter_reconstruction.specs.declared.frames.FrameGeometry.{FrameGeometry}
 use Rattle.inter_reconstruction.specs.declared.motion.Uses.{Uses}
+use Rattle.inter_reconstruction.specs.declared.macroblock.PredictionRefusal.{PredictionRefusal}
+use Rattle.inter_reconstruction.specs.declared.placing.PlacingRefusal.{PlacingRefusal}
 use Rattle.inter_reconstruction.specs.declared.motion.Uses.TheVariants.{Forward, Backward, Both}
 use Rattle.inter_reconstruction.proofs.Rectangles.{rectangle_length}
 use Rattle.inter_reconstruction.proofs.Stored.{stored_length}
@@ -37,8 +40,8 @@ module _ (g : FrameGeometry) (k : ℕ) (pictures : Pictures) (fit : Fitting g k 
   -- a reference's planes, where it is there
   planes : (n : ℕ) → n ≤ k → (r : Option ℕ) → Lower n r
       → planes_refusal (reference g r) (lengths_of (reference_samples pictures r)) ≡ planes_refusal (reference g r) (fitting_lengths g)
-  planes n h none l = refl
-  planes n h (some j) l = ap (planes_refusal (reference g (some j))) (lengths j (omega (arith, l)))
+  planes n h None l = refl
+  planes n h (Some j) l = ap (planes_refusal (reference g (Some j))) (lengths j (omega (arith, l)))
 
   references : (n : ℕ) → n ≤ k → (f b : Option ℕ) → Lower n f → Lower n b → (u : Uses)
       → references_refusal g (reference g f) (lengths_of (reference_samples pictures f)) (reference g b) (lengths_of (reference_samples pictures b)) u
@@ -49,12 +52,12 @@ module _ (g : FrameGeometry) (k : ℕ) (pictures : Pictures) (fit : Fitting g k 
 
   module _ (s : Step) (r : InRange k s) where
     -- what the table refuses of the prediction, and of placing
-    abbrev prediction_table : ℕ
+    abbrev prediction_table : Option PredictionRefusal
     prediction_table =
         prediction_refusal g (macroblock_bytes g.chroma_format) (reference g s.forward) (fitting_lengths g)
         (reference g s.backward) (fitting_lengths g) (step_uses s) s.column s.row
 
-    abbrev placing_table : ℕ
+    abbrev placing_table : Option PlacingRefusal
     placing_table = placing_refusal (fitting g) (fitting_lengths g) (macroblock_bytes g.chroma_format) s.column s.row
 
     predicts : step_prediction_refusal g s pictures ≡ prediction_table
@@ -66,9 +69,12 @@ module _ (g : FrameGeometry) (k : ℕ) (pictures : Pictures) (fit : Fitting g k 
     places = rw (lengths s.target r.last, predicted_length rounded g.chroma_format _ _ (step_uses s) s.column s.row)
 
     -- one refusal after the other is the first of them
-    chain : (a b : ℕ) (new : Pictures) → unless_refused a (unless_refused b new pictures) pictures ≡ unless_refused (or_else a b) new pictures
-    chain zero b new = refl
-    chain (suc a) b new = refl
+    chain : (a : Option PredictionRefusal) (b : Option PlacingRefusal) (new : Pictures)
+        → unless_refused a (unless_refused b new pictures) pictures
+        ≡ unless_refused (or_else (option_map prediction_number a) (option_map placing_number b)) new pictures
+    chain None None new = refl
+    chain None (Some b) new = refl
+    chain (Some a) b new = refl
 
     pub step_is : after_step g s pictures ≡ unless_refused (table_refusal g s) (replaced pictures s.target (placement g s pictures)) pictures
     unfolding table_refusal
@@ -82,9 +88,9 @@ module _ (g : FrameGeometry) (k : ℕ) (pictures : Pictures) (fit : Fitting g k 
     replaced_fits true m c h = placed_fits c
     replaced_fits false m c h = fit m c h
 
-    table_fits : (t : ℕ) → Fitting g k (unless_refused t (replaced pictures s.target (placement g s pictures)) pictures)
-    table_fits zero m c h = replaced_fits (eqb m s.target) m c h
-    table_fits (suc t) m c h = fit m c h
+    table_fits : (t : Option ℕ) → Fitting g k (unless_refused t (replaced pictures s.target (placement g s pictures)) pictures)
+    table_fits None m c h = replaced_fits (eqb m s.target) m c h
+    table_fits (Some t) m c h = fit m c h
 
     pub step_fits : Fitting g k (after_step g s pictures)
     step_fits = rw step_is (table_fits (table_refusal g s))

@@ -2,7 +2,8 @@
 -- Assumes nothing.
 use mathlib.Core.Path.{◌≡◌, refl}
 use mathlib.Core.Bool.{Bool, true, false, not}
-use mathlib.Core.Option.{Option, none, some}
+use Rattle.std.specs.Prelude.{Option, Some, None}
+use Rattle.std.specs.Option.{option_map}
 use Prim.Native.Nat.{ℕ, zero, suc, ◌*◌, ◌%◌, ◌≤◌}
 use native.Mathlib.Omega.{arith}
 use borrow.Author.Tests.{le-leb, eq-eqb, ne_eqb}
@@ -14,11 +15,15 @@ use Rattle.pmv.specs.declared.kinds.ChromaFormat.{ChromaFormat}
 use Rattle.pmv.specs.declared.kinds.ChromaFormat.TheVariants.{Yuv420, Yuv422, Yuv444}
 use Rattle.inter_reconstruction.specs.Components.{ColourComponent, luma, cb, cr, columns_of, lines_of, macroblock_bytes}
 use Rattle.inter_reconstruction.specs.Frames.{plane_of}
-use Rattle.inter_reconstruction.specs.Refusals.{every_component, same_geometry, planes_fit, references_refusal, cell_refusal}
-use Rattle.inter_reconstruction.specs.Placing.{plane_sides_fit, cell_inside, picture_fits, well_formed}
+use Rattle.inter_reconstruction.specs.Refusals.{prediction_number, every_component, same_geometry, planes_fit, references_refusal, cell_refusal}
+use Rattle.inter_reconstruction.specs.Placing.{placing_number, plane_sides_fit, cell_inside, picture_fits, well_formed}
 use Rattle.inter_reconstruction.specs.declared.frames.FrameGeometry.{FrameGeometry}
 use Rattle.inter_reconstruction.specs.declared.motion.Uses.{Uses}
 use Rattle.inter_reconstruction.specs.declared.motion.Uses.TheVariants.{Forward, Backward, Both}
+use Rattle.inter_reconstruction.specs.declared.macroblock.PredictionRefusal.{PredictionRefusal}
+use Rattle.inter_reconstruction.specs.declared.macroblock.PredictionRefusal.TheVariants.{ForwardMissing, BackwardMissing}
+use Rattle.inter_reconstruction.specs.declared.placing.PlacingRefusal.{PlacingRefusal}
+use Rattle.inter_reconstruction.specs.declared.placing.PlacingRefusal.TheVariants.{IllFormed}
 use Rattle.drift.specs.Steps.{Step, step_uses, fitting_plane, fitting, reference}
 use Rattle.drift.specs.Unrounded.{fitting_lengths, table_refusal}
 
@@ -32,21 +37,20 @@ pub record WellFormed (g : FrameGeometry) : Type 0 where
   pub high_whole : g.height % 16 ≡ 0
 
 -- 16 or 17, for a reference that is used and absent
-abbrev pub absent_refusal : Option ℕ → Option ℕ → Uses → ℕ
-absent_refusal none b (Forward d) = 16
-absent_refusal (some j) b (Forward d) = 0
-absent_refusal f none (Backward e) = 17
-absent_refusal f (some j) (Backward e) = 0
-absent_refusal none b (Both d e) = 16
-absent_refusal (some i) none (Both d e) = 17
-absent_refusal (some i) (some j) (Both d e) = 0
+abbrev pub absent_refusal : Option ℕ → Option ℕ → Uses → Option PredictionRefusal
+absent_refusal None b (Forward d) = Some ForwardMissing
+absent_refusal (Some j) b (Forward d) = None
+absent_refusal f None (Backward e) = Some BackwardMissing
+absent_refusal f (Some j) (Backward e) = None
+absent_refusal None b (Both d e) = Some ForwardMissing
+absent_refusal (Some i) None (Both d e) = Some BackwardMissing
+absent_refusal (Some i) (Some j) (Both d e) = None
 
 -- 13, then 16 or 17, then 20
-abbrev pub short_table : FrameGeometry → Step → ℕ
+abbrev pub short_table : FrameGeometry → Step → Option ℕ
 short_table g s =
-    or_else (cell_refusal s.column s.row)
-    (or_else (absent_refusal s.forward s.backward (step_uses s))
-    (cause (not (cell_inside g s.column s.row)) 20))
+    or_else (option_map prediction_number (or_else (cell_refusal s.column s.row) (absent_refusal s.forward s.backward (step_uses s))))
+    (cause (not (cell_inside g s.column s.row)) 20)
 
 columns_le : (f : ChromaFormat) (c : ColourComponent) (n : ℕ) → columns_of f c n ≤ n
 columns_le f luma n = omega arith
@@ -74,13 +78,14 @@ same_geometry_lem g =
 every : (t : ColourComponent → Bool) → ((c : ColourComponent) → t c ≡ true) → every_component t ≡ true
 every t h = rw (h luma, h cb, h cr)
 
-or_else_zero : (a : ℕ) → or_else a 0 ≡ a
-or_else_zero zero = refl
-or_else_zero (suc a) = refl
+or_else_none : {R : Type 0} (a : Option R) → or_else a None ≡ a
+or_else_none None = refl
+or_else_none (Some r) = refl
 
-or_else_assoc : (a b c : ℕ) → or_else (or_else a b) c ≡ or_else a (or_else b c)
-or_else_assoc zero b c = refl
-or_else_assoc (suc a) b c = refl
+-- the number of the last cause
+ill_formed : (b : Bool) → option_map placing_number (or_else (cause b IllFormed) None) ≡ cause b 20
+ill_formed true = refl
+ill_formed false = refl
 
 plane_is : (g : FrameGeometry) (c : ColourComponent) → plane_of (fitting g) c ≡ fitting_plane g c
 plane_is g luma = refl
@@ -124,19 +129,16 @@ module _ (g : FrameGeometry) (w : WellFormed g) where
 
   references : (f b : Option ℕ) (u : Uses)
       → references_refusal g (reference g f) (fitting_lengths g) (reference g b) (fitting_lengths g) u ≡ absent_refusal f b u
-  references none b (Forward d) = refl
-  references (some j) b (Forward d) = rw (same_geometry_lem g, planes_fit_lem) refl
-  references f none (Backward e) = refl
-  references f (some j) (Backward e) = rw (same_geometry_lem g, planes_fit_lem) refl
-  references none b (Both d e) = refl
-  references (some i) none (Both d e) = refl
-  references (some i) (some j) (Both d e) = rw (same_geometry_lem g, planes_fit_lem) refl
+  references None b (Forward d) = refl
+  references (Some j) b (Forward d) = rw (same_geometry_lem g, planes_fit_lem) refl
+  references f None (Backward e) = refl
+  references f (Some j) (Backward e) = rw (same_geometry_lem g, planes_fit_lem) refl
+  references None b (Both d e) = refl
+  references (Some i) None (Both d e) = refl
+  references (Some i) (Some j) (Both d e) = rw (same_geometry_lem g, planes_fit_lem) refl
 
   pub table_short : (s : Step) → table_refusal g s ≡ short_table g s
   unfolding table_refusal
   table_short s =
       let n = macroblock_bytes g.chroma_format in
-      let a = cell_refusal s.column s.row in
-      let b = absent_refusal s.forward s.backward (step_uses s) in
-      let c = cause (not (cell_inside g s.column s.row)) 20 in
-      rw (eq-eqb n n refl, references s.forward s.backward (step_uses s), picture_fits_lem, well_formed_lem, or_else_zero c) (or_else_assoc a b c)
+      rw (eq-eqb n n refl, references s.forward s.backward (step_uses s), picture_fits_lem, well_formed_lem, ill_formed (not (cell_inside g s.column s.row)))

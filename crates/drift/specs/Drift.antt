@@ -1,7 +1,6 @@
 -- Demand 3: nobody who chooses picture 0 and the vectors can exceed the drift figure. docs/SCOPE.md, "The drift figure", has the hypotheses
 -- and the scale. Nothing here is the standard's.
-use Rattle.std.specs.Prelude.{◌≡◌, List, ℕ, ◌+◌, ◌*◌, ◌^◌, ◌≤◌, ◌<◌, length, get_or}
-use Rattle.std.proofs.Math.Option.{Option, none, some}
+use Rattle.std.specs.Prelude.{◌≡◌, List, ℕ, ◌+◌, ◌*◌, ◌^◌, ◌≤◌, ◌<◌, length, get_or, Option, Some, None}
 use Rattle.laws.specs.All.{All}
 use Rattle.inter_reconstruction.specs.Components.{ColourComponent}
 use Rattle.inter_reconstruction.specs.declared.frames.FrameGeometry.{FrameGeometry}
@@ -16,8 +15,8 @@ Fitting g k pictures = (n : ℕ) (c : ColourComponent) → n ≤ k → length (p
 
 -- a reference is absent or a lower-numbered picture
 abbrev pub Lower : ℕ → Option ℕ → Type 0
-Lower n none = Unit {0}
-Lower n (some j) = j < n
+Lower n None = Unit {0}
+Lower n (Some j) = j < n
 
 -- a step is for one of pictures 1 to k
 pub record InRange (k : ℕ) (s : Step) : Type 0 where

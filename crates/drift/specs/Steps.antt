@@ -1,8 +1,7 @@
 -- The scope (docs/SCOPE.md, "The drift figure"): a list of steps on numbered pictures of one geometry, by the calls that predict and place.
 -- A run is made of the definitions that the promises of these calls speak of, and of nothing else: what these have of the standard, 7.6.3.5
 -- to 7.6.7, is all of it here.
-use Rattle.std.specs.Prelude.{Bool, true, false, cond, List, [], ◌∷◌, ℕ, eqb, length}
-use Rattle.std.proofs.Math.Option.{Option, none, some}
+use Rattle.std.specs.Prelude.{Bool, cond, List, [], ◌∷◌, ℕ, eqb, length, Option, Some, None, is_some}
 use Rattle.combine_predictions.specs.Refusals.{unless_refused}
 use Rattle.forming_predictions.specs.Means.{rounded}
 use Rattle.forming_predictions.specs.declared.ReferencePlane.{ReferencePlane}
@@ -14,17 +13,18 @@ use Rattle.inter_reconstruction.specs.Refusals.{prediction_refusal}
 use Rattle.inter_reconstruction.specs.Placing.{placed, placing_refusal}
 use Rattle.inter_reconstruction.specs.declared.frames.FrameGeometry.{FrameGeometry}
 use Rattle.inter_reconstruction.specs.declared.frames.FrameBuffer.{FrameBuffer}
-use Rattle.inter_reconstruction.specs.declared.frames.ReferenceFrame.{ReferenceFrame}
-use Rattle.inter_reconstruction.specs.declared.frames.ReferenceFrame.TheVariants.{Absent, Present}
-use Rattle.inter_reconstruction.specs.declared.motion.FrameMotion.{FrameMotion}
-use Rattle.inter_reconstruction.specs.declared.motion.FieldBasedMotion.{FieldBasedMotion}
+use Rattle.inter_reconstruction.specs.declared.motion.MotionVectorPel.{MotionVectorPel}
+use Rattle.inter_reconstruction.specs.declared.motion.FieldVectorPair.{FieldVectorPair}
+use Rattle.inter_reconstruction.specs.declared.motion.Motion as Macroblock
 use Rattle.inter_reconstruction.specs.declared.motion.Uses.{Uses}
+use Rattle.inter_reconstruction.specs.declared.macroblock.PredictionRefusal.{PredictionRefusal}
+use Rattle.inter_reconstruction.specs.declared.placing.PlacingRefusal.{PlacingRefusal}
 
 -- ---- steps
 
 pub data Motion : Type 0 where
-  frame_based : FrameMotion → Motion
-  field_based : FieldBasedMotion → Motion
+  frame_based : Macroblock.Motion MotionVectorPel → Motion
+  field_based : Macroblock.Motion FieldVectorPair → Motion
 
 -- a macroblock of picture `target` is predicted and placed. A reference is absent, or the picture of this number.
 pub record Step : Type 0 where
@@ -35,17 +35,13 @@ pub record Step : Type 0 where
   pub row : ℕ
   pub motion : Motion
 
-abbrev pub is_there : Option ℕ → Bool
-is_there none = false
-is_there (some j) = true
-
 abbrev pub motion_uses : Motion → Bool → Bool → Uses
 motion_uses (frame_based m) = frame_uses m
 motion_uses (field_based m) = field_uses m
 
 -- the directions that are used
 abbrev pub step_uses : Step → Uses
-step_uses s = motion_uses s.motion (is_there s.forward) (is_there s.backward)
+step_uses s = motion_uses s.motion (is_some s.forward) (is_some s.backward)
 
 -- ---- pictures
 
@@ -66,19 +62,19 @@ fitting g = record { geometry = g; y = fitting_plane g luma; cb = fitting_plane 
 
 -- a reference as the calls get it: the frame, and beside it the samples of its planes. Beside a reference that is absent nothing is read, and
 -- any samples would do
-abbrev pub reference : FrameGeometry → Option ℕ → ReferenceFrame
-reference g none = Absent
-reference g (some j) = Present (fitting g)
+abbrev pub reference : FrameGeometry → Option ℕ → Option FrameBuffer
+reference g None = None
+reference g (Some j) = Some (fitting g)
 
 abbrev pub reference_samples : Pictures → Option ℕ → Samples
-reference_samples pictures none = λ (c : ColourComponent). []
-reference_samples pictures (some j) = pictures j
+reference_samples pictures None = λ (c : ColourComponent). []
+reference_samples pictures (Some j) = pictures j
 
 -- ---- a step by the calls
 
 -- what the prediction refuses, and what it writes. Its output has a macroblock's length, and what is placed is that output, so that no step is
 -- refused with 18: a call that is, with a buffer of another length, changes nothing, and a list with it is the list without it
-unfoldable pub step_prediction_refusal : FrameGeometry → Step → Pictures → ℕ
+unfoldable pub step_prediction_refusal : FrameGeometry → Step → Pictures → Option PredictionRefusal
 step_prediction_refusal g s pictures =
     prediction_refusal g (macroblock_bytes g.chroma_format)
     (reference g s.forward) (lengths_of (reference_samples pictures s.forward))
@@ -93,7 +89,7 @@ prediction g s pictures =
     (step_uses s) s.column s.row
 
 -- what placing it in the same cell refuses, and what it leaves
-unfoldable pub step_placing_refusal : FrameGeometry → Step → Pictures → ℕ
+unfoldable pub step_placing_refusal : FrameGeometry → Step → Pictures → Option PlacingRefusal
 step_placing_refusal g s pictures =
     placing_refusal (fitting g) (lengths_of (pictures s.target)) (length (prediction g s pictures)) s.column s.row
 

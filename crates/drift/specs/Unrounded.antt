@@ -2,16 +2,16 @@
 -- steps alone, never an answer of a call. A sample of picture n is counted in units, 8 to the power n of them to a grey step: at most four
 -- samples and then two directions are averaged for each picture, so that all stays whole. Where is read, and placed, is by the definitions
 -- of the calls; the arithmetic is the scope's and not the standard's.
-use Rattle.std.specs.Prelude.{List, [], ◌∷◌, map, ℕ, ◌+◌, ◌-◌, ◌*◌, ◌^◌, ℤ}
-use Rattle.std.proofs.Math.Option.{Option, none, some}
+use Rattle.std.specs.Prelude.{List, [], ◌∷◌, map, ℕ, ◌+◌, ◌-◌, ◌*◌, ◌^◌, ℤ, Option, Some, None}
+use Rattle.std.specs.Option.{option_map}
 use Rattle.combine_predictions.specs.Refusals.{or_else, unless_refused}
 use Rattle.forming_predictions.specs.Lines.{Lines}
 use Rattle.forming_predictions.specs.Means.{Means}
 use Rattle.inter_reconstruction.specs.Components.{ColourComponent, macroblock_bytes}
 use Rattle.inter_reconstruction.specs.Frames.{Samples, PlaneReading, plane_of, read_frame}
 use Rattle.inter_reconstruction.specs.Macroblock.{predicted}
-use Rattle.inter_reconstruction.specs.Refusals.{prediction_refusal}
-use Rattle.inter_reconstruction.specs.Placing.{placed, placing_refusal}
+use Rattle.inter_reconstruction.specs.Refusals.{prediction_number, prediction_refusal}
+use Rattle.inter_reconstruction.specs.Placing.{placed, placing_number, placing_refusal}
 use Rattle.inter_reconstruction.specs.declared.frames.FrameGeometry.{FrameGeometry}
 use Rattle.drift.specs.Steps.{Step, step_uses, Pictures, replaced, fitting, reference}
 
@@ -32,21 +32,22 @@ unrounded =
 abbrev pub fitting_lengths : FrameGeometry → ColourComponent → ℕ
 fitting_lengths g c = (plane_of (fitting g) c).width * (plane_of (fitting g) c).height
 
--- prediction, then placing
-unfoldable pub table_refusal : FrameGeometry → Step → ℕ
+-- prediction, then placing, by their numbers
+unfoldable pub table_refusal : FrameGeometry → Step → Option ℕ
 table_refusal g s =
     or_else
+    (option_map prediction_number
     (prediction_refusal g (macroblock_bytes g.chroma_format) (reference g s.forward) (fitting_lengths g)
-    (reference g s.backward) (fitting_lengths g) (step_uses s) s.column s.row)
-    (placing_refusal (fitting g) (fitting_lengths g) (macroblock_bytes g.chroma_format) s.column s.row)
+    (reference g s.backward) (fitting_lengths g) (step_uses s) s.column s.row))
+    (option_map placing_number (placing_refusal (fitting g) (fitting_lengths g) (macroblock_bytes g.chroma_format) s.column s.row))
 
 -- ---- a step
 
 -- what is read for picture n: where prediction reads, but out of the reference's unrounded picture, and with j its number, times 8 to the
 -- power n - 1 - j. Of a reference that is absent nothing is ever read.
 abbrev pub unrounded_reading : FrameGeometry → ℕ → Pictures → Option ℕ → ColourComponent → PlaneReading
-unrounded_reading g n pictures none c = λ (l : Lines) (x y : ℤ). 0
-unrounded_reading g n pictures (some j) c = λ (l : Lines) (x y : ℤ). 8 ^ (n - 1 - j) * read_frame (fitting g) (pictures j) c l x y
+unrounded_reading g n pictures None c = λ (l : Lines) (x y : ℤ). 0
+unrounded_reading g n pictures (Some j) c = λ (l : Lines) (x y : ℤ). 8 ^ (n - 1 - j) * read_frame (fitting g) (pictures j) c l x y
 
 unfoldable pub unrounded_prediction : FrameGeometry → Step → Pictures → List ℕ
 unrounded_prediction g s pictures =

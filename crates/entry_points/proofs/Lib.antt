@@ -2,3 +2,4 @@
 pub mod Words
 pub mod ReadBack
 pub mod Updates
+pub mod Reading

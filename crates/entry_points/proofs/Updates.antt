@@ -1,6 +1,6 @@
 -- What an update leaves in its buffers, and the lengths of the buffers of the C entry points for vectors and updates.
 -- Assumes nothing.
-use mathlib.Core.Path.{◌≡◌, refl}
+use mathlib.Core.Path.{◌≡◌, refl, sym, ◌∙◌}
 use mathlib.Core.Bool.{true, ◌&&◌}
 use mathlib.Core.List.{List, [], ◌∷◌}
 use Prim.Native.Nat.{ℕ, zero, suc, ◌<◌}
@@ -9,18 +9,22 @@ use lib.Dec.{eqb}
 use lib.ListN.{length, get_or, set}
 use borrow.Author.Tests.{eqb-true}
 use Rattle.laws.proofs.Tests.{both}
-use Rattle.combine_predictions.specs.Refusals.{unless_refused}
-use Rattle.pmv.specs.Answers.{update_number, update_answer}
+use Rattle.std.specs.Prelude.{Option, Some, None, Result, is_some}
+use Rattle.std.specs.Result.{result_err}
+use Rattle.combine_predictions.specs.Refusals.{answered, unless_refused}
+use Rattle.pmv.specs.Refusals.{update_number}
 use Rattle.pmv.specs.Update.{update_refusal, update_outcome, outcome_number, after, updated}
-use Rattle.pmv.specs.Kinds.{flag_from, flag_known, index_from, index_known, direction_from, direction_known, format_from, format_known, structure_from, structure_known, type_from, type_known}
+use Rattle.pmv.specs.Kinds.{flag_from, index_from, direction_from, format_from, structure_from, type_from}
 use Rattle.entry_points.specs.Layout.{predictors_of, predictor_bytes}
-use Rattle.entry_points.specs.Entries.{presence_known, vector_known, update_known}
+use Rattle.entry_points.specs.Entries.{presence_known, vector_known, update_known, refusal_number, unless_number}
 use Rattle.entry_points.specs.inner.Outcomes.{outcome_byte}
 use Rattle.entry_points.proofs.ReadBack.{bytes_read_back}
 use Rattle.pmv.specs.declared.predictors.Pmv.{Pmv}
 use Rattle.pmv.specs.declared.update.PmvUpdateContext.{PmvUpdateContext}
 use Rattle.pmv.specs.declared.update.PredictorUpdate.{PredictorUpdate}
-use Rattle.pmv.specs.declared.update.Updated.{Updated}
+use Rattle.pmv.specs.declared.update.PmvUpdateOutcome.{PmvUpdateOutcome}
+use Rattle.pmv.specs.declared.update.UpdateRefusal.{UpdateRefusal}
+use Rattle.pmv.specs.declared.update.UpdateRefusal.TheVariants as R
 
 one_set : (l : List ℕ) (k : ℕ) → length l ≡ 1 → set l 0 k ≡ k ∷ []
 one_set [] k e = absurd (omega arith)
@@ -32,18 +36,27 @@ one_same [] e = absurd (omega arith)
 one_same (x ∷ []) e = refl
 one_same (x ∷ y ∷ l) e = absurd (omega arith)
 
+-- no refusal has number 0
+kept : {A : Type 0} (r : UpdateRefusal) (q p : A) → unless_number (update_number r) q p ≡ p
+kept R.IntraWithMotion q p = refl
+kept R.TypeMissing q p = refl
+kept R.FrameBasedInField q p = refl
+kept R.SixteenByEightInFrame q p = refl
+kept R.DualPrimeFlags q p = refl
+kept R.NoneRowFlags q p = refl
+
 -- An update's answer and predictors give the number of the refusal and both buffers, which are written either way: a refusal writes what
 -- they hold.
 module _ (x : PmvUpdateContext) (p o : List ℕ) (np : length p ≡ 32) (bp : (i : ℕ) → get_or p i 0 < 256) (no : length o ≡ 1) where
-  abbrev Left : ℕ → Updated → Pmv → Type 0
-  Left m r q =
-      (update_number r ≡ m)
-      × ((predictor_bytes q ≡ unless_refused (update_number r) (predictor_bytes q) p)
-      × (set o 0 (outcome_byte r (get_or o 0 0)) ≡ unless_refused (update_number r) (outcome_number (update_outcome x) ∷ []) o))
+  abbrev Left : Option UpdateRefusal → Result PmvUpdateOutcome UpdateRefusal → Pmv → Type 0
+  Left m a q =
+      (result_err a ≡ m)
+      × ((predictor_bytes q ≡ unless_number (refusal_number update_number m) (predictor_bytes q) p)
+      × (set o 0 (outcome_byte a (get_or o 0 0)) ≡ unless_number (refusal_number update_number m) (outcome_number (update_outcome x) ∷ []) o))
 
-  at : (m : ℕ) → Left m (update_answer m (update_outcome x)) (unless_refused m (after (update_outcome x) (predictors_of p)) (predictors_of p))
-  at zero = (refl, (refl, one_set o (outcome_number (update_outcome x)) no))
-  at (suc m) = (refl, (bytes_read_back p np bp, one_same o no))
+  at : (m : Option UpdateRefusal) → Left m (answered m (update_outcome x)) (unless_refused m (after (update_outcome x) (predictors_of p)) (predictors_of p))
+  at None = (refl, (refl, one_set o (outcome_number (update_outcome x)) no))
+  at (Some r) = (refl, (bytes_read_back p np bp ∙ sym (kept r _ p), one_same o no ∙ sym (kept r _ o)))
 
   pub updated_left : (u : PredictorUpdate) → u ≡ updated (predictors_of p) x → Left (update_refusal x) u.answer u.pmv
   unfolding updated
@@ -53,16 +66,16 @@ module _ (x : PmvUpdateContext) (p o : List ℕ) (np : length p ≡ 32) (bp : (i
 pub vector_lengths : (r s h v f t p n : ℕ) → vector_known r s h v f t p n ≡ true → (p ≡ 32) × (n ≡ 8)
 unfolding vector_known
 vector_lengths r s h v f t p n e =
-    let a = both (index_known (index_from r) && (direction_known (direction_from s) && (flag_known (flag_from h) && flag_known (flag_from v)))) ((format_known (format_from f) && structure_known (structure_from t)) && (eqb p 32 && eqb n 8)) e in
-    let b = both (format_known (format_from f) && structure_known (structure_from t)) (eqb p 32 && eqb n 8) a.1 in
+    let a = both (is_some (index_from r) && (is_some (direction_from s) && (is_some (flag_from h) && is_some (flag_from v)))) ((is_some (format_from f) && is_some (structure_from t)) && (eqb p 32 && eqb n 8)) e in
+    let b = both (is_some (format_from f) && is_some (structure_from t)) (eqb p 32 && eqb n 8) a.1 in
     let c = both (eqb p 32) (eqb n 8) b.1 in
     (eqb-true p 32 c.0, eqb-true n 8 c.1)
 
 pub update_lengths : (t y k f b i c p n : ℕ) → update_known t y k f b i c p n ≡ true → (p ≡ 32) × (n ≡ 1)
 unfolding update_known
 update_lengths t y k f b i c p n e =
-    let flags = (flag_known (flag_from f) && flag_known (flag_from b)) && (flag_known (flag_from i) && flag_known (flag_from c)) in
-    let g = both (structure_known (structure_from t) && presence_known y (type_known (type_from k))) (flags && (eqb p 32 && eqb n 1)) e in
+    let flags = (is_some (flag_from f) && is_some (flag_from b)) && (is_some (flag_from i) && is_some (flag_from c)) in
+    let g = both (is_some (structure_from t) && presence_known y (is_some (type_from k))) (flags && (eqb p 32 && eqb n 1)) e in
     let h = both flags (eqb p 32 && eqb n 1) g.1 in
     let l = both (eqb p 32) (eqb n 1) h.1 in
     (eqb-true p 32 l.0, eqb-true n 1 l.1)

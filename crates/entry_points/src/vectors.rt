@@ -1,22 +1,23 @@
 //! The card's C entry points for vectors and predictors, on numbers and bytes.
-ghost use Rattle.std.specs.Prelude.{◌≡◌, cond, ◌++◌, [], ◌∷◌, ◌+◌, ◌<◌, ◌≤◌, length};
-ghost use Rattle.combine_predictions.specs.Refusals.{or_else, unless_refused};
+ghost use Rattle.std.specs.Prelude.{◌≡◌, cond, ◌++◌, [], ◌∷◌, ◌+◌, ◌<◌, ◌≤◌, length, eqb, ◌&&◌};
+ghost use Rattle.std.specs.Result.{result_err};
 ghost use Rattle.pmv.specs.Predictors.{pair_of};
+ghost use Rattle.pmv.specs.Refusals.{vector_number, update_number};
 ghost use Rattle.pmv.specs.Update.{update_refusal, update_outcome, outcome_number, updated};
-ghost use Rattle.pmv.specs.Answers.{vector_number, update_number};
 ghost use Rattle.entry_points.specs.Layout.{word_of, signed_of, bytes_of, number_at, pair_bytes, predictors_of, predictor_bytes, with_pair};
-ghost use Rattle.entry_points.specs.Entries.{unknown_refusal, residual_of, type_of, vector_known, update_known, index_of, direction_of, format_of, structure_of, motion_vector_of, context_of, vector_from, vector_bytes};
+ghost use Rattle.entry_points.specs.Entries.{refusal_number, call_number, unless_number, vector_known, update_known, index_of, direction_of, format_of, structure_of, motion_vector_of, context_of, vector_from, vector_bytes};
 ghost use Rattle.entry_points.specs.inner.Outcomes.{outcome_byte};
+ghost use Rattle.entry_points.specs.inner.Reading.{read_where, residual_read, type_read, vector_meant};
 
-use crate::prediction::{NO_MEANING, is_yes};
-use pmv::component::MotionResidual;
+use crate::prediction::NO_MEANING;
+use pmv::component::VectorRefusal;
 use pmv::kinds::{
-    Component, Direction, MotionType, MvFormat, PictureStructure, PredictionType, VectorIndex,
+    Component, Direction, MvFormat, NoMeaning, PictureStructure, PredictionType, VectorIndex,
     flag_from_number,
 };
 use pmv::predictors::{Pmv, PredictorPair, place_of};
-use pmv::update::{PmvUpdateContext, Updated, updated_predictors};
-use pmv::vector::{MotionVector, ReconstructedVector, reconstructed_pair};
+use pmv::update::{PmvUpdateContext, PmvUpdateOutcome, UpdateRefusal, updated_predictors};
+use pmv::vector::{MotionVector, VectorComponents, reconstructed_pair};
 
 // ---- the buffers: 32-bit numbers in two's complement, each as four bytes, the lowest first
 
@@ -141,146 +142,174 @@ fn store_predictors(p: Pmv, out: &mut [u8])
     store_four(v[4], v[5], v[6], v[7], &mut out[16..32]);
 }
 
-// ---- what the numbers mean, and whether those that are read have a meaning
+// ---- what the numbers mean, where those that are read have a meaning and the buffers their lengths
 
+/// What a vector is read with.
+#[derive(Clone, Copy)]
+struct VectorRead {
+    index: VectorIndex,
+    direction: Direction,
+    coded: MotionVector,
+    format: MvFormat,
+    structure: PictureStructure,
+}
+
+/// A residual that is absent is not read.
 #[tactic(auto, unfolding(crate::specs::Entries::residual_of))]
-fn residual_of(present: u32, residual: u8) -> MotionResidual
-    ensures { result ≡ residual_of present residual }
+fn read_residual(present: u32, residual: u8) -> Result<Option<u8>, NoMeaning>
+    ensures { result ≡ residual_read present residual }
 {
-    if !is_yes(present) {
-        return MotionResidual::Absent;
-    }
-    MotionResidual::Present(residual)
+    let there = flag_from_number(present)?;
+    Ok(if there { Some(residual) } else { None })
 }
 
+/// A motion type that is absent is not read.
 #[tactic(auto, unfolding(crate::specs::Entries::type_of))]
-fn type_of(present: u32, number: u32) -> MotionType
-    ensures { result ≡ type_of present number }
+fn read_type(present: u32, number: u32) -> Result<Option<PredictionType>, NoMeaning>
+    ensures { result ≡ type_read present number }
 {
-    if !is_yes(present) {
-        return MotionType::Absent;
-    }
-    let kind = PredictionType::from_number(number);
-    MotionType::Present(kind.or_first())
+    let there = flag_from_number(present)?;
+    Ok(if there {
+        Some(PredictionType::try_from(number)?)
+    } else {
+        None
+    })
 }
 
-/// Whether the numbers that a vector is read with have a meaning, and the buffers their lengths.
 #[tactic(auto, unfolding(crate::specs::Entries::vector_known))]
-fn vector_known(
+fn read_vector(
     r: u32,
     s: u32,
-    horiz_present: u32,
-    vert_present: u32,
+    motion_code_horiz: i32,
+    motion_residual_horiz_present: u32,
+    motion_residual_horiz: u8,
+    motion_code_vert: i32,
+    motion_residual_vert_present: u32,
+    motion_residual_vert: u8,
     mv_format: u32,
     picture_structure: u32,
     predictors: usize,
     vector: usize,
-) -> bool
-    ensures { result ≡ vector_known r s horiz_present vert_present mv_format picture_structure predictors vector }
+) -> Result<VectorRead, NoMeaning>
+    ensures { result ≡ read_where (vector_known r s motion_residual_horiz_present motion_residual_vert_present mv_format picture_structure predictors vector) (vector_meant r s motion_code_horiz motion_residual_horiz_present motion_residual_horiz motion_code_vert motion_residual_vert_present motion_residual_vert mv_format picture_structure) }
 {
-    let index = VectorIndex::from_number(r);
-    let direction = Direction::from_number(s);
-    let horiz = flag_from_number(horiz_present);
-    let vert = flag_from_number(vert_present);
-    let format = MvFormat::from_number(mv_format);
-    let structure = PictureStructure::from_number(picture_structure);
-    (index.is_some() & (direction.is_some() & (horiz.is_some() & vert.is_some())))
-        & ((format.is_some() & structure.is_some()) & ((predictors == 32) & (vector == 8)))
+    let index = VectorIndex::try_from(r)?;
+    let direction = Direction::try_from(s)?;
+    let horiz = read_residual(motion_residual_horiz_present, motion_residual_horiz)?;
+    let vert = read_residual(motion_residual_vert_present, motion_residual_vert)?;
+    let format = MvFormat::try_from(mv_format)?;
+    let structure = PictureStructure::try_from(picture_structure)?;
+    if (predictors != 32) | (vector != 8) {
+        return Err(NoMeaning);
+    }
+    Ok(VectorRead {
+        index: index,
+        direction: direction,
+        coded: MotionVector {
+            motion_code_horiz: motion_code_horiz,
+            motion_residual_horiz: horiz,
+            motion_code_vert: motion_code_vert,
+            motion_residual_vert: vert,
+        },
+        format: format,
+        structure: structure,
+    })
 }
 
-/// The same for an update. A motion type that is absent is not read.
 #[tactic(auto, unfolding(crate::specs::Entries::update_known))]
-fn update_known(
+fn read_update(
     picture_structure: u32,
-    type_present: u32,
+    prediction_type_present: u32,
     prediction_type: u32,
-    forward: u32,
-    backward: u32,
-    intra: u32,
-    concealment: u32,
+    macroblock_motion_forward: u32,
+    macroblock_motion_backward: u32,
+    macroblock_intra: u32,
+    concealment_motion_vectors: u32,
     predictors: usize,
     outcome: usize,
-) -> bool
-    ensures { result ≡ update_known picture_structure type_present prediction_type forward backward intra concealment predictors outcome }
+) -> Result<PmvUpdateContext, NoMeaning>
+    ensures { result ≡ read_where (update_known picture_structure prediction_type_present prediction_type macroblock_motion_forward macroblock_motion_backward macroblock_intra concealment_motion_vectors predictors outcome) (context_of picture_structure prediction_type_present prediction_type macroblock_motion_forward macroblock_motion_backward macroblock_intra concealment_motion_vectors) }
 {
-    let structure = PictureStructure::from_number(picture_structure);
-    let kind = PredictionType::from_number(prediction_type);
-    let f = flag_from_number(forward);
-    let b = flag_from_number(backward);
-    let i = flag_from_number(intra);
-    let c = flag_from_number(concealment);
-    (structure.is_some() & ((type_present == 0) | ((type_present == 1) & kind.is_some())))
-        & (((f.is_some() & b.is_some()) & (i.is_some() & c.is_some()))
-            & ((predictors == 32) & (outcome == 1)))
+    let structure = PictureStructure::try_from(picture_structure)?;
+    let kind = read_type(prediction_type_present, prediction_type)?;
+    let forward = flag_from_number(macroblock_motion_forward)?;
+    let backward = flag_from_number(macroblock_motion_backward)?;
+    let intra = flag_from_number(macroblock_intra)?;
+    let concealment = flag_from_number(concealment_motion_vectors)?;
+    if (predictors != 32) | (outcome != 1) {
+        return Err(NoMeaning);
+    }
+    Ok(PmvUpdateContext {
+        picture_structure: structure,
+        prediction_type: kind,
+        macroblock_motion_forward: forward,
+        macroblock_motion_backward: backward,
+        macroblock_intra: intra,
+        concealment_motion_vectors: concealment,
+    })
 }
 
 // ---- on buffers of the right lengths
 
 /// Both components, where the vector is accepted: 0, or the number of the refusal.
-fn store_vector(answer: ReconstructedVector, out: &mut [u8]) -> u32
+fn store_vector(answer: Result<VectorComponents, VectorRefusal>, out: &mut [u8]) -> u32
     requires { length out.old ≡ 8 }
-    ensures number { result ≡ vector_number answer }
+    ensures number { result ≡ refusal_number vector_number (result_err answer) }
     ensures buffer { out.new ≡ vector_bytes answer out.old }
 {
     match answer {
-        ReconstructedVector::Components(c) => {
+        Ok(c) => {
             let h = c.horizontal;
             let v = c.vertical;
             store_pair(h.vector_prime, v.vector_prime, out);
             0
         }
-        ReconstructedVector::Refused(number) => number as u32,
+        Err(refusal) => refusal.into(),
     }
 }
 
 /// A vector, on buffers of the right lengths. Where the vertical part is refused, the new horizontal predictor remains.
 fn vector_in_bytes(
-    r: VectorIndex,
-    s: Direction,
-    mv: MotionVector,
+    read: VectorRead,
     f_code_horiz: u8,
     f_code_vert: u8,
-    mv_format: MvFormat,
-    picture: PictureStructure,
     predictors: &mut [u8],
     vector: &mut [u8],
 ) -> u32
     requires { (length predictors.old ≡ 32) × (length vector.old ≡ 8) }
-    ensures number { result ≡ vector_number (vector_from predictors.old r s mv f_code_horiz f_code_vert mv_format picture).answer }
-    ensures predictors { predictors.new ≡ with_pair predictors.old r s (vector_from predictors.old r s mv f_code_horiz f_code_vert mv_format picture).predictors }
-    ensures vector { vector.new ≡ vector_bytes (vector_from predictors.old r s mv f_code_horiz f_code_vert mv_format picture).answer vector.old }
+    ensures number { result ≡ refusal_number vector_number (result_err (vector_from predictors.old read.index read.direction read.coded f_code_horiz f_code_vert read.format read.structure).answer) }
+    ensures predictors { predictors.new ≡ with_pair predictors.old read.index read.direction (vector_from predictors.old read.index read.direction read.coded f_code_horiz f_code_vert read.format read.structure).predictors }
+    ensures vector { vector.new ≡ vector_bytes (vector_from predictors.old read.index read.direction read.coded f_code_horiz f_code_vert read.format read.structure).answer vector.old }
 {
     let decoded = reconstructed_pair(
-        load_pair(predictors, r, s),
-        mv,
+        load_pair(predictors, read.index, read.direction),
+        read.coded,
         f_code_horiz,
         f_code_vert,
-        mv_format,
-        picture,
+        read.format,
+        read.structure,
     );
-    let after = decoded.predictors;
-    replace_pair(after, r, s, predictors);
-    let answer = decoded.answer;
-    store_vector(answer, vector)
+    replace_pair(decoded.predictors, read.index, read.direction, predictors);
+    store_vector(decoded.answer, vector)
 }
 
 /// The byte for the outcome: its number, or what was there where the update is refused.
-fn outcome_byte(answer: Updated, before: u8) -> u8
+fn outcome_byte(answer: Result<PmvUpdateOutcome, UpdateRefusal>, before: u8) -> u8
     ensures { result ≡ outcome_byte answer before }
 {
     match answer {
-        Updated::Outcome(row) => row.number(),
-        Updated::Refused(_) => before,
+        Ok(row) => row.into(),
+        Err(_) => before,
     }
 }
 
 /// 0, or the number of the refusal.
-fn refusal_of(answer: Updated) -> u32
-    ensures { result ≡ update_number answer }
+fn update_code(answer: Result<PmvUpdateOutcome, UpdateRefusal>) -> u32
+    ensures { result ≡ refusal_number update_number (result_err answer) }
 {
     match answer {
-        Updated::Outcome(_) => 0,
-        Updated::Refused(number) => number as u32,
+        Ok(_) => 0,
+        Err(refusal) => refusal.into(),
     }
 }
 
@@ -288,16 +317,14 @@ fn refusal_of(answer: Updated) -> u32
 /// the answer.
 fn update_in_bytes(ctx: PmvUpdateContext, predictors: &mut [u8], outcome: &mut [u8]) -> u32
     requires { (length predictors.old ≡ 32) × (length outcome.old ≡ 1) }
-    ensures number { result ≡ update_refusal ctx }
-    ensures predictors { predictors.new ≡ unless_refused result (predictor_bytes (updated (predictors_of predictors.old) ctx).pmv) predictors.old }
-    ensures outcome { outcome.new ≡ unless_refused result (outcome_number (update_outcome ctx) ∷ []) outcome.old }
+    ensures number { result ≡ refusal_number update_number (update_refusal ctx) }
+    ensures predictors { predictors.new ≡ unless_number result (predictor_bytes (updated (predictors_of predictors.old) ctx).pmv) predictors.old }
+    ensures outcome { outcome.new ≡ unless_number result (outcome_number (update_outcome ctx) ∷ []) outcome.old }
 {
     let update = updated_predictors(load_predictors(predictors), ctx);
-    let kept = update.pmv;
-    let answer = update.answer;
-    store_predictors(kept, predictors);
-    outcome[0] = outcome_byte(answer, outcome[0]);
-    refusal_of(answer)
+    store_predictors(update.pmv, predictors);
+    outcome[0] = outcome_byte(update.answer, outcome[0]);
+    update_code(update.answer)
 }
 
 // ---- the calls
@@ -322,7 +349,7 @@ pub fn fozdrik_reconstruct_motion_vector(
     ensures number { let known = vector_known r s motion_residual_horiz_present motion_residual_vert_present mv_format picture_structure (length predictors.old) (length vector.old) in
         let coded = motion_vector_of motion_code_horiz motion_residual_horiz_present motion_residual_horiz motion_code_vert motion_residual_vert_present motion_residual_vert in
         let decoded = vector_from predictors.old (index_of r) (direction_of s) coded f_code_horiz f_code_vert (format_of mv_format) (structure_of picture_structure) in
-        result ≡ or_else (unknown_refusal known) (vector_number decoded.answer) }
+        result ≡ call_number vector_number known (result_err decoded.answer) }
     ensures predictors { let known = vector_known r s motion_residual_horiz_present motion_residual_vert_present mv_format picture_structure (length predictors.old) (length vector.old) in
         let coded = motion_vector_of motion_code_horiz motion_residual_horiz_present motion_residual_horiz motion_code_vert motion_residual_vert_present motion_residual_vert in
         let decoded = vector_from predictors.old (index_of r) (direction_of s) coded f_code_horiz f_code_vert (format_of mv_format) (structure_of picture_structure) in
@@ -332,41 +359,23 @@ pub fn fozdrik_reconstruct_motion_vector(
         let decoded = vector_from predictors.old (index_of r) (direction_of s) coded f_code_horiz f_code_vert (format_of mv_format) (structure_of picture_structure) in
         vector.new ≡ cond known (vector_bytes decoded.answer vector.old) vector.old }
 {
-    if !vector_known(
+    let Ok(read) = read_vector(
         r,
         s,
+        motion_code_horiz,
         motion_residual_horiz_present,
+        motion_residual_horiz,
+        motion_code_vert,
         motion_residual_vert_present,
+        motion_residual_vert,
         mv_format,
         picture_structure,
         predictors.len(),
         vector.len(),
-    ) {
-        return NO_MEANING as u32;
-    }
-    let index = VectorIndex::from_number(r);
-    let direction = Direction::from_number(s);
-    let format = MvFormat::from_number(mv_format);
-    let structure = PictureStructure::from_number(picture_structure);
-    vector_in_bytes(
-        index.or_first(),
-        direction.or_first(),
-        MotionVector {
-            motion_code_horiz: motion_code_horiz,
-            motion_residual_horiz: residual_of(
-                motion_residual_horiz_present,
-                motion_residual_horiz,
-            ),
-            motion_code_vert: motion_code_vert,
-            motion_residual_vert: residual_of(motion_residual_vert_present, motion_residual_vert),
-        },
-        f_code_horiz,
-        f_code_vert,
-        format.or_first(),
-        structure.or_first(),
-        predictors,
-        vector,
-    )
+    ) else {
+        return NO_MEANING;
+    };
+    vector_in_bytes(read, f_code_horiz, f_code_vert, predictors, vector)
 }
 
 /// The predictors after a macroblock, and the outcome's number in one byte: 0, or the number of the refusal.
@@ -383,13 +392,13 @@ pub fn fozdrik_update_predictors(
 ) -> u32
     ensures number { let known = update_known picture_structure prediction_type_present prediction_type macroblock_motion_forward macroblock_motion_backward macroblock_intra concealment_motion_vectors (length predictors.old) (length outcome.old) in
         let context = context_of picture_structure prediction_type_present prediction_type macroblock_motion_forward macroblock_motion_backward macroblock_intra concealment_motion_vectors in
-        result ≡ or_else (unknown_refusal known) (update_refusal context) }
+        result ≡ call_number update_number known (update_refusal context) }
     ensures predictors { let context = context_of picture_structure prediction_type_present prediction_type macroblock_motion_forward macroblock_motion_backward macroblock_intra concealment_motion_vectors in
-        predictors.new ≡ unless_refused result (predictor_bytes (updated (predictors_of predictors.old) context).pmv) predictors.old }
+        predictors.new ≡ unless_number result (predictor_bytes (updated (predictors_of predictors.old) context).pmv) predictors.old }
     ensures outcome { let context = context_of picture_structure prediction_type_present prediction_type macroblock_motion_forward macroblock_motion_backward macroblock_intra concealment_motion_vectors in
-        outcome.new ≡ unless_refused result (outcome_number (update_outcome context) ∷ []) outcome.old }
+        outcome.new ≡ unless_number result (outcome_number (update_outcome context) ∷ []) outcome.old }
 {
-    if !update_known(
+    let Ok(ctx) = read_update(
         picture_structure,
         prediction_type_present,
         prediction_type,
@@ -399,20 +408,8 @@ pub fn fozdrik_update_predictors(
         concealment_motion_vectors,
         predictors.len(),
         outcome.len(),
-    ) {
-        return NO_MEANING as u32;
-    }
-    let structure = PictureStructure::from_number(picture_structure);
-    update_in_bytes(
-        PmvUpdateContext {
-            picture_structure: structure.or_first(),
-            prediction_type: type_of(prediction_type_present, prediction_type),
-            macroblock_motion_forward: is_yes(macroblock_motion_forward),
-            macroblock_motion_backward: is_yes(macroblock_motion_backward),
-            macroblock_intra: is_yes(macroblock_intra),
-            concealment_motion_vectors: is_yes(concealment_motion_vectors),
-        },
-        predictors,
-        outcome,
-    )
+    ) else {
+        return NO_MEANING;
+    };
+    update_in_bytes(ctx, predictors, outcome)
 }

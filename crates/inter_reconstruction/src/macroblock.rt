@@ -763,6 +763,7 @@ fn check_destination(
 }
 
 /// The directions that are used, with their references: what `prediction_refusal` has after the destination.
+#[inline(always)]
 fn predict_used(
     dest: FrameGeometry,
     used: Uses,

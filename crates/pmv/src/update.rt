@@ -189,7 +189,8 @@ const OUTCOMES: [u8; 64] = [
     REFUSED_7,
 ];
 
-/// The answers by the numbers of rows, the outcomes and then the refusals. The last two are of no row.
+/// The answers by the numbers of rows, the outcomes and then the refusals. The last two are of no row. A `static`: a constant is written anew at
+/// each use.
 static ANSWERS: [Result<PmvUpdateOutcome, UpdateRefusal>; 16] = [
     Ok(PmvUpdateOutcome::IntraConcealmentCopyForwardFirst),
     Ok(PmvUpdateOutcome::IntraResetAll),

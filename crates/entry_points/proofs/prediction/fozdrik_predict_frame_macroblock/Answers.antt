@@ -1,16 +1,14 @@
 -- Where all numbers are known, the number and the buffer are those of the layer's call on what the numbers mean.
 -- Assumes nothing.
 use mir.Facts.{to_z-of_z}
-use Rattle.inter_reconstruction.proofs.Checks.{answer_number}
+use Rattle.entry_points.proofs.Reading.{read_known}
 use Rattle.entry_points.proofs.prediction.fozdrik_predict_frame_macroblock.Goals as goal
 
 pub returns : goal.returns
 returns c =
     let r = c.ranges in
-    let f = rw (to_z-of_z r.forward_horizontal, to_z-of_z r.forward_vertical) at c.frame_direction_of.ensures in
-    let b = rw (to_z-of_z r.backward_horizontal, to_z-of_z r.backward_vertical) at c.frame_direction_of-2.ensures in
-    let p = c.predict_frame_macroblock_planes.ensures in
+    let k = read_known _ _ (rw (to_z-of_z r.forward_horizontal, to_z-of_z r.forward_vertical, to_z-of_z r.backward_horizontal, to_z-of_z r.backward_vertical) at c.in-Ok.ensures) in
     record {
-      number = rw (← c.if-not-frame_known.ensures, c.number_of.ensures, ← c.geometry_of.ensures, ← c.reference_of.ensures, ← c.reference_of-2.ensures, ← f, ← b, p.answer, answer_number);
-      buffer = rw (c.number_of.ensures, ← c.geometry_of.ensures, ← c.reference_of.ensures, ← c.reference_of-2.ensures, ← f, ← b) p.buffer;
+      number = rw k.0 (rw k.1 at c.predict_read.ensures.number);
+      buffer = rw k.1 at c.predict_read.ensures.buffer;
     }

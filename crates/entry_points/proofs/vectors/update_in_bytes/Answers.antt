@@ -1,9 +1,10 @@
 -- Where the update is refused, the predictors that are written are those that were read.
 -- Assumes nothing.
 use Rattle.std.proofs.Common.{ap, ◌∙◌, rules}
-use Rattle.combine_predictions.specs.Refusals.{unless_refused}
-use Rattle.pmv.specs.Answers.{update_number}
+use Rattle.pmv.specs.Refusals.{update_number}
+use Rattle.pmv.specs.Update.{update_refusal}
 use Rattle.pmv.specs.declared.update.PredictorUpdate.{PredictorUpdate}
+use Rattle.entry_points.specs.Entries.{refusal_number, unless_number}
 use Rattle.entry_points.specs.Layout.{predictor_bytes}
 use Rattle.entry_points.proofs.Updates.{updated_left}
 use Rattle.entry_points.proofs.vectors.update_in_bytes.Goals as goal
@@ -14,5 +15,6 @@ returns-clause-predictors c =
     let r = c.updated_predictors-update.result in
     let e = rw c.load_predictors.ensures at c.updated_predictors-update.ensures.update in
     let h = updated_left c.args.ctx p c.args.outcome.now c.requires.0 (λ i. search rules) c.requires.1 r e in
-    rw c.refusal_of.ensures
-    (c.store_predictors.ensures ∙ h.1.0 ∙ ap (λ (v : PredictorUpdate). unless_refused (update_number r.answer) (predictor_bytes v.pmv) p) e)
+    rw (c.update_code.ensures, h.0)
+    (c.store_predictors.ensures ∙ h.1.0
+    ∙ ap (λ (v : PredictorUpdate). unless_number (refusal_number update_number (update_refusal c.args.ctx)) (predictor_bytes v.pmv) p) e)
