@@ -1,0 +1,93 @@
+//! How far the bytes lie from the unrounded samples, and what is printed of it.
+use crate::pictures::{Component, Picture, scaled};
+use drift::drift_bound;
+use std::cmp::Ordering;
+use std::fmt;
+
+/// The largest distances of a picture in units: 8 to the power n of them to a grey step.
+#[derive(Clone, Copy)]
+struct Distances {
+    above: u64,
+    below: u64,
+}
+
+/// Over all three planes.
+fn largest(picture: &Picture) -> Distances {
+    let mut above = 0;
+    let mut below = 0;
+    for component in Component::ALL {
+        let plane = picture.plane(component);
+        for (byte, unrounded) in plane.bytes.iter().zip(plane.exact.iter()) {
+            let rounded = scaled(u64::from(*byte), picture.number);
+            above = above.max(rounded.saturating_sub(*unrounded));
+            below = below.max(unrounded.saturating_sub(rounded));
+        }
+    }
+    Distances { above, below }
+}
+
+/// A distance in picture n, and its figure in quarters of a grey step.
+#[derive(Clone, Copy)]
+struct Against {
+    distance: u64,
+    n: u32,
+    quarters: u64,
+}
+
+impl Against {
+    /// Millionths of a grey step, rounded up.
+    fn millionths(&self) -> u128 {
+        let unit = u128::from(scaled(1, self.n));
+        (u128::from(self.distance) * 1000000).div_ceil(unit.max(1))
+    }
+
+    /// Exactly, as multiples of a quarter unit. No distance reaches 2 to the power 62.
+    fn compared(&self) -> Ordering {
+        let is = self.distance % 4611686018427387904 * 4;
+        is.cmp(&scaled(self.quarters, self.n))
+    }
+}
+
+impl fmt::Display for Against {
+    fn fmt<W: fmt::Write>(&self, f: &mut fmt::Formatter<W>) -> fmt::Result {
+        let millionths = self.millionths();
+        let sign = match self.compared() {
+            Ordering::Less => '<',
+            Ordering::Equal => '=',
+            Ordering::Greater => '>',
+        };
+        write!(
+            f,
+            "{:3}.{:06} {sign}{:3}.{:02}",
+            millionths / 1000000,
+            millionths % 1000000,
+            self.quarters / 4,
+            self.quarters % 4 * 25,
+        )
+    }
+}
+
+/// The row of a picture: its largest distances above and below, and the figure.
+#[derive(Clone, Copy)]
+pub struct Row<'a> {
+    pub picture: &'a Picture,
+}
+
+impl fmt::Display for Row<'_> {
+    fn fmt<W: fmt::Write>(&self, f: &mut fmt::Formatter<W>) -> fmt::Result {
+        let n = self.picture.number;
+        let distances = largest(self.picture);
+        let figure = drift_bound(n);
+        let above = Against {
+            distance: distances.above,
+            n,
+            quarters: figure.above,
+        };
+        let below = Against {
+            distance: distances.below,
+            n,
+            quarters: figure.below,
+        };
+        write!(f, "    {n:3}   {above}   {below}")
+    }
+}
