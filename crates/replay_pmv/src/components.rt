@@ -17,7 +17,7 @@ pub fn delta(case: &mut Cursor<'_>) -> Result<bool, Unread> {
     let motion_code = case.number()?;
     let residual = fields::residual(case)?;
     let f_code = case.number()?;
-    let listed = (fields::answer(case)?, case.number()?);
+    let listed = (fields::number(case)?, case.number()?);
     let given = pmv::component::compute_delta(motion_code, residual, f_code);
     Ok(number_and_value(given, 0) == listed)
 }
@@ -25,7 +25,7 @@ pub fn delta(case: &mut Cursor<'_>) -> Result<bool, Unread> {
 /// `2 F_CODE ANSWER LOW HIGH RANGE`, from F_CODE on.
 pub fn range(case: &mut Cursor<'_>) -> Result<bool, Unread> {
     let f_code = case.number()?;
-    let answer = fields::answer(case)?;
+    let answer = fields::number(case)?;
     let range = VectorRange {
         low: case.number()?,
         high: case.number()?,
@@ -46,7 +46,7 @@ pub fn reconstructing(case: &mut Cursor<'_>) -> Result<bool, Unread> {
     let picture_number = case.number()?;
     let picture = fields::kind::<PictureStructure>(picture_number)?;
     let t = fields::component(case)?;
-    let listed = (fields::answer(case)?, fields::reconstructed(case)?);
+    let listed = (fields::number(case)?, fields::reconstructed(case)?);
     let given = pmv::component::reconstruct_component(
         motion_code,
         residual,

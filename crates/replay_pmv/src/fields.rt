@@ -98,8 +98,8 @@ pub fn reconstructed(case: &mut Cursor<'_>) -> Result<ReconstructedComponent, Un
     })
 }
 
-/// `ANSWER`: any i32.
-pub fn answer(case: &mut Cursor<'_>) -> Result<i64, Unread> {
+/// `ANSWER` or the like: any i32.
+pub fn number(case: &mut Cursor<'_>) -> Result<i64, Unread> {
     Ok(i64::from(case.number::<i32>()?))
 }
 

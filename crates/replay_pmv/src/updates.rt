@@ -38,7 +38,7 @@ impl Call for Updating {
 
     /// `ANSWER OUTCOME`.
     fn answer(case: &mut Cursor<'_>) -> Result<Self::Answer, Unread> {
-        Ok((fields::answer(case)?, fields::answer(case)?))
+        Ok((fields::number(case)?, fields::number(case)?))
     }
 
     fn by_value(self, pmv: Pmv) -> (Self::Answer, Pmv) {
@@ -70,7 +70,7 @@ impl Call for ResettingByClass {
 
     /// `APPLIED`.
     fn answer(case: &mut Cursor<'_>) -> Result<Self::Answer, Unread> {
-        fields::answer(case)
+        fields::number(case)
     }
 
     fn by_value(self, pmv: Pmv) -> (Self::Answer, Pmv) {

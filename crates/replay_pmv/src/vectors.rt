@@ -41,7 +41,7 @@ impl Call for Decoding {
 
     /// `ANSWER VECTOR NEW_PMV DELTA RANGE`.
     fn answer(case: &mut Cursor<'_>) -> Result<Self::Answer, Unread> {
-        Ok((fields::answer(case)?, fields::reconstructed(case)?))
+        Ok((fields::number(case)?, fields::reconstructed(case)?))
     }
 
     fn by_value(self, pmv: Pmv) -> (Self::Answer, Pmv) {
@@ -105,7 +105,7 @@ impl Call for Reconstructing {
 
     /// `ANSWER VECTOR_H NEW_PMV_H DELTA_H RANGE_H VECTOR_V NEW_PMV_V DELTA_V RANGE_V`.
     fn answer(case: &mut Cursor<'_>) -> Result<Self::Answer, Unread> {
-        let number = fields::answer(case)?;
+        let number = fields::number(case)?;
         let components = VectorComponents {
             horizontal: fields::reconstructed(case)?,
             vertical: fields::reconstructed(case)?,

@@ -1,7 +1,7 @@
 //! A step by the calls that predict and place.
 use crate::outcomes::Refusal;
 use crate::pictures::{Component, Picture};
-use crate::steps::{Direction, Step};
+use crate::steps::Step;
 use forming_predictions::ReferencePlane;
 use inter_reconstruction::frames::{FrameBuffer, FrameGeometry};
 use inter_reconstruction::macroblock::{Accepted, PredictionRefusal, predict_macroblock_planes};
@@ -30,13 +30,6 @@ const FRAME: FrameBuffer = FrameBuffer {
     cb: CHROMINANCE,
     cr: CHROMINANCE,
 };
-
-impl Direction {
-    /// The reference, where it is there. No picture is its own, so that those below the target are all that there are.
-    pub fn picture(self, below: &[Picture]) -> Option<&Picture> {
-        below.get(self.reference?)
-    }
-}
 
 /// A plane of a reference, empty where that is absent.
 fn bytes(reference: Option<&Picture>, component: Component) -> &[u8] {

@@ -1,5 +1,5 @@
 //! How far the bytes lie from the unrounded samples, and what is printed of it.
-use crate::pictures::{Component, Picture, scaled};
+use crate::pictures::{Component, Picture, scaled, unit};
 use drift::drift_bound;
 use std::cmp::Ordering;
 use std::fmt;
@@ -37,8 +37,7 @@ struct Against {
 impl Against {
     /// Millionths of a grey step, rounded up.
     fn millionths(&self) -> u128 {
-        let unit = u128::from(scaled(1, self.n));
-        (u128::from(self.distance) * 1000000).div_ceil(unit.max(1))
+        (u128::from(self.distance) * 1000000).div_ceil(u128::from(unit(self.n)))
     }
 
     /// Exactly, as multiples of a quarter unit. No distance reaches 2 to the power 62.

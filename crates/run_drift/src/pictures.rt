@@ -53,9 +53,16 @@ pub struct Picture {
     pub cr: Plane,
 }
 
-/// v times 8 to the power n, which is three bits for each. No sample of pictures 0 to 18 reaches 2 to the power 62.
+/// 8 to the power n.
+pub fn unit(n: u32) -> u64
+    ensures { 0 < result }
+{
+    1 << (3 * (n % 20))
+}
+
+/// v times 8 to the power n. No sample of pictures 0 to 18 reaches 2 to the power 62.
 pub fn scaled(v: u64, n: u32) -> u64 {
-    v << (3 * (n % 20))
+    v.wrapping_mul(unit(n))
 }
 
 impl Plane {

@@ -2,6 +2,7 @@
 ghost use Rattle.std.specs.Prelude.{◌<◌};
 
 use crate::generator::Generator;
+use crate::pictures::Picture;
 use forming_predictions::FieldParity;
 use inter_reconstruction::motion::{FieldVector, FieldVectorPair, MotionVectorPel};
 
@@ -24,6 +25,13 @@ pub struct Step {
     pub backward: Direction,
 }
 
+impl Direction {
+    /// The reference, where it is there. No list has a step with a reference from its target on, so that it is among the pictures below.
+    pub fn picture(self, below: &[Picture]) -> Option<&Picture> {
+        below.get(self.reference?)
+    }
+}
+
 const ABSENT: Direction = Direction {
     reference: None,
     motion: None,
@@ -40,7 +48,7 @@ fn vector(horizontal: i32, vertical: i32, reference_field: FieldParity) -> Field
 }
 
 /// A frame vector into a picture.
-fn from(picture: usize, horizontal: i32, vertical: i32) -> Direction {
+fn from_picture(picture: usize, horizontal: i32, vertical: i32) -> Direction {
     Direction {
         reference: Some(picture),
         motion: Some(FieldVectorPair {
@@ -64,12 +72,12 @@ fn at_cell(k: usize, forward: Direction, backward: Direction) -> Step {
 
 /// Step k of the brighter list: from the picture before.
 pub fn brighter(k: usize) -> Step {
-    at_cell(k, from(k / 9, 0, 1), from(k / 9, 0, -1))
+    at_cell(k, from_picture(k / 9, 0, 1), from_picture(k / 9, 0, -1))
 }
 
 /// Step k of the unchanged list: from the picture before.
 pub fn unchanged(k: usize) -> Step {
-    at_cell(k, from(k / 9, 1, 1), ABSENT)
+    at_cell(k, from_picture(k / 9, 1, 1), ABSENT)
 }
 
 // ---- drawn steps
