@@ -1,5 +1,6 @@
 //! A step by the calls that predict and place.
 use crate::outcomes::Refusal;
+use crate::pictures;
 use crate::pictures::{Component, Picture};
 use crate::steps::Step;
 use forming_predictions::ReferencePlane;
@@ -32,15 +33,15 @@ const FRAME: FrameBuffer = FrameBuffer {
 };
 
 /// A plane of a reference, empty where that is absent.
-fn bytes(reference: Option<&Picture>, component: Component) -> &[u8] {
+fn bytes(reference: Option<&Picture<u8>>, component: Component) -> &[u8] {
     match reference {
-        Some(picture) => &picture.plane(component).bytes,
+        Some(picture) => picture.plane(component),
         None => &[],
     }
 }
 
 fn predict<V: DirectionVectors>(
-    below: &[Picture],
+    below: &[Picture<u8>],
     step: Step,
     motion: Motion<V>,
     out: &mut [u8],
@@ -65,7 +66,8 @@ fn predict<V: DirectionVectors>(
 }
 
 /// What prediction refuses is not placed.
-pub fn take(below: &[Picture], target: &mut Picture, step: Step) -> Result<(), Refusal> {
+pub fn take(pictures: &mut [Picture<u8>], step: Step) -> Result<(), Refusal> {
+    let (below, target) = pictures::at(pictures, step.target).ok_or(Refusal::Other)?;
     let mut out = [0u8; 384];
     if step.field_based {
         let motion = Motion {
@@ -85,9 +87,9 @@ pub fn take(below: &[Picture], target: &mut Picture, step: Step) -> Result<(), R
         usize::from(step.column),
         usize::from(step.row),
         &out,
-        &mut target.y.bytes,
-        &mut target.cb.bytes,
-        &mut target.cr.bytes,
+        &mut target.y,
+        &mut target.cb,
+        &mut target.cr,
     )?;
     Ok(())
 }

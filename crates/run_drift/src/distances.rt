@@ -11,16 +11,16 @@ struct Distances {
     below: u64,
 }
 
-/// Over all three planes.
-fn largest(picture: &Picture) -> Distances {
+/// Over all three planes of a picture.
+fn largest(rounded: &Picture<u8>, exact: &Picture<u64>) -> Distances {
     let mut above = 0;
     let mut below = 0;
     for component in Component::ALL {
-        let plane = picture.plane(component);
-        for (byte, unrounded) in plane.bytes.iter().zip(plane.exact.iter()) {
-            let rounded = scaled(u64::from(*byte), picture.number);
-            above = above.max(rounded.saturating_sub(*unrounded));
-            below = below.max(unrounded.saturating_sub(rounded));
+        let samples = rounded.plane(component).iter().zip(exact.plane(component));
+        for (byte, unrounded) in samples {
+            let byte = scaled(u64::from(*byte), rounded.number);
+            above = above.max(byte.saturating_sub(*unrounded));
+            below = below.max(unrounded.saturating_sub(byte));
         }
     }
     Distances { above, below }
@@ -69,13 +69,14 @@ impl fmt::Display for Against {
 /// The row of a picture: its largest distances above and below, and the figure.
 #[derive(Clone, Copy)]
 pub struct Row<'a> {
-    pub picture: &'a Picture,
+    pub rounded: &'a Picture<u8>,
+    pub exact: &'a Picture<u64>,
 }
 
 impl fmt::Display for Row<'_> {
     fn fmt<W: fmt::Write>(&self, f: &mut fmt::Formatter<W>) -> fmt::Result {
-        let n = self.picture.number;
-        let distances = largest(self.picture);
+        let n = self.rounded.number;
+        let distances = largest(self.rounded, self.exact);
         let figure = drift_bound(n);
         let above = Against {
             distance: distances.above,

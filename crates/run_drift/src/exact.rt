@@ -2,7 +2,8 @@
 //! calls the code that forms blocks.
 ghost use Rattle.std.specs.Prelude.{◌≤◌};
 
-use crate::pictures::{Component, Picture, Plane, scaled};
+use crate::pictures;
+use crate::pictures::{Component, Picture, scaled};
 use crate::steps::{Direction, Step};
 use forming_predictions::{FieldParity, split_component};
 use inter_reconstruction::motion::{FieldVector, FieldVectorPair, MotionVectorPel};
@@ -19,7 +20,7 @@ struct Reading {
 /// A direction that is used: its reference, and its vectors.
 #[derive(Clone, Copy)]
 struct Used<'a> {
-    reference: &'a Picture,
+    reference: &'a Picture<u64>,
     motion: Option<FieldVectorPair>,
 }
 
@@ -71,15 +72,15 @@ fn vector_of(component: Component, v: MotionVectorPel) -> MotionVectorPel {
 
 // ---- samples
 
-fn sample(component: Component, plane: &Plane, x: u8, y: u8) -> u64 {
+fn sample(component: Component, plane: &[u64], x: u8, y: u8) -> u64 {
     let place = usize::from(y) * usize::from(component.side()) + usize::from(x);
-    plane.exact.get(place).copied().unwrap_or(0)
+    plane.get(place).copied().unwrap_or(0)
 }
 
 impl Reading {
     /// The sum of four samples of a plane. Where there is no half the neighbour is the sample itself, so that one sample is added four
     /// times, or two neighbours twice each, or four once.
-    fn read(self, component: Component, plane: &Plane, x: u8, y: u8) -> u64 {
+    fn read(self, component: Component, plane: &[u64], x: u8, y: u8) -> u64 {
         let v = vector_of(component, self.vector);
         let end = component.side() - 1;
         let (left, right) = moved(x, v.horizontal, end);
@@ -102,7 +103,7 @@ fn still(reference_field: FieldParity) -> FieldVector {
 }
 
 impl<'a> Used<'a> {
-    fn of(uses: bool, direction: Direction, below: &'a [Picture]) -> Option<Self> {
+    fn of(uses: bool, direction: Direction, below: &'a [Picture<u64>]) -> Option<Self> {
         if !uses {
             return None;
         }
@@ -168,8 +169,14 @@ impl Prediction<'_> {
     }
 }
 
-/// A step that the table accepts.
-pub fn take(below: &[Picture], target: &mut Picture, step: Step) {
+/// What the table refuses changes nothing.
+pub fn take(pictures: &mut [Picture<u64>], step: Step) {
+    if step.by_table().is_err() {
+        return;
+    }
+    let Some((below, target)) = pictures::at(pictures, step.target) else {
+        return;
+    };
     let prediction = Prediction {
         n: target.number,
         field_based: step.field_based,
@@ -181,7 +188,6 @@ pub fn take(below: &[Picture], target: &mut Picture, step: Step) {
         let block = component.block();
         let rows = target
             .plane_mut(component)
-            .exact
             .chunks_exact_mut(usize::from(side));
         for (y, row) in (0..side).zip(rows) {
             for (x, sample) in (0..side).zip(row.iter_mut()) {

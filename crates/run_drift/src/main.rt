@@ -15,8 +15,8 @@ mod steps;
 
 use distances::Row;
 use generator::Generator;
-use outcomes::{Counts, Refusal};
-use pictures::{Component, Picture};
+use outcomes::Counts;
+use pictures::{Component, Pictures};
 use std::alloc::Global;
 use std::io;
 use steps::Step;
@@ -27,23 +27,10 @@ const DRAWN: usize = 6000;
 /// Pictures 1 to 18, each of nine macroblocks.
 const EVERY_CELL: usize = 162;
 
-/// A step by the calls, on bytes, and the same step on the unrounded samples, which get no answer of the calls. No list has a step at a
-/// picture that there is not.
-fn take(pictures: &mut [Picture], step: Step) -> Result<(), Refusal> {
-    let (below, rest) = pictures
-        .split_at_mut_checked(step.target)
-        .ok_or(Refusal::Other)?;
-    let target = rest.first_mut().ok_or(Refusal::Other)?;
-    if step.by_table().is_ok() {
-        exact::take(below, target, step);
-    }
-    calls::take(below, target, step)
-}
-
 /// Takes the steps of a list, and reports.
 fn run<F: FnMut(usize) -> Step>(
     rt: &impl Print,
-    pictures: &mut [Picture],
+    pictures: &mut Pictures,
     count: usize,
     mut step: F,
 ) -> io::Result<()>
@@ -52,12 +39,14 @@ fn run<F: FnMut(usize) -> Step>(
     let mut counts = Counts::new();
     for k in 0..count {
         let step = step(k);
-        counts.count(take(pictures, step), step.by_table());
+        let answered = calls::take(&mut pictures.rounded, step);
+        exact::take(&mut pictures.exact, step);
+        counts.count(answered, step.by_table());
     }
     println!(rt; "{count} steps: {counts}")?;
     println!(rt; "picture        above  figure        below  figure")?;
-    for picture in pictures.iter() {
-        let row = Row { picture };
+    for (rounded, exact) in pictures.rounded.iter().zip(pictures.exact.iter()) {
+        let row = Row { rounded, exact };
         println!(rt; "{row}")?;
     }
     Ok(())
@@ -65,15 +54,15 @@ fn run<F: FnMut(usize) -> Step>(
 
 /// Changes luminance sample (x, y) of picture 18 by hand, modulo 256, where it is as far off as the figure allows, so that the comparison
 /// is seen to fail.
-fn spoil(rt: &impl Print, pictures: &mut [Picture], x: u8, y: u8, by: u8) -> io::Result<()> {
-    let Some(picture) = pictures.last_mut() else {
+fn spoil(rt: &impl Print, pictures: &mut Pictures, x: u8, y: u8, by: u8) -> io::Result<()> {
+    let (Some(rounded), Some(exact)) = (pictures.rounded.last_mut(), pictures.exact.last()) else {
         return Ok(());
     };
     let place = usize::from(y) * usize::from(Component::Y.side()) + usize::from(x);
-    if let Some(byte) = picture.y.bytes.get_mut(place) {
+    if let Some(byte) = rounded.y.get_mut(place) {
         *byte = byte.wrapping_add(by);
     }
-    let row = Row { picture };
+    let row = Row { rounded, exact };
     println!(rt; "{row}")
 }
 
@@ -96,8 +85,9 @@ fn run_brighter(rt: &impl Print, alloc: Global) -> io::Result<()> {
         "\nlist 1, brighter: each macroblock from the picture before, forward by (0, 1) and backward by (0, -1)"
     )?;
     println!(rt; "sample (x, y) of picture 0's luminance is y")?;
-    let mut pictures = pictures::drawn(alloc)?;
-    pictures::set_first_luminance(&mut pictures, |_, y| y);
+    let mut drawn = pictures::drawn(alloc)?;
+    pictures::set_first_luminance(&mut drawn, |_, y| y);
+    let mut pictures = Pictures::new(alloc, drawn)?;
     run(rt, &mut pictures, EVERY_CELL, steps::brighter)?;
     println!(rt;
         "sample (24, 24) of picture 18 made one grey step brighter by hand, which is too bright:"
@@ -120,8 +110,9 @@ fn run_unchanged(rt: &impl Print, alloc: Global) -> io::Result<()> {
     println!(rt;
         "sample (x, y) of picture 0's luminance is d (d - 1) / 2 for d = x - y, or 255 where that is more"
     )?;
-    let mut pictures = pictures::drawn(alloc)?;
-    pictures::set_first_luminance(&mut pictures, curved);
+    let mut drawn = pictures::drawn(alloc)?;
+    pictures::set_first_luminance(&mut drawn, curved);
+    let mut pictures = Pictures::new(alloc, drawn)?;
     run(rt, &mut pictures, EVERY_CELL, steps::unchanged)?;
     println!(rt;
         "sample (5, 0) of picture 18 made one grey step darker by hand, which is too dark:"
@@ -131,7 +122,7 @@ fn run_unchanged(rt: &impl Print, alloc: Global) -> io::Result<()> {
 
 fn run_drawn(rt: &impl Print, alloc: Global) -> io::Result<()> {
     println!(rt; "\nlist 3, drawn: drawn steps on drawn pictures, in any order, some refused")?;
-    let mut pictures = pictures::drawn(alloc)?;
+    let mut pictures = Pictures::new(alloc, pictures::drawn(alloc)?)?;
     let mut numbers = Generator { state: 4 };
     run(rt, &mut pictures, DRAWN, |_| steps::drawn(&mut numbers))
 }

@@ -27,7 +27,7 @@ pub struct Step {
 
 impl Direction {
     /// The reference, where it is there. No list has a step with a reference from its target on, so that it is among the pictures below.
-    pub fn picture(self, below: &[Picture]) -> Option<&Picture> {
+    pub fn picture<S>(self, below: &[Picture<S>]) -> Option<&Picture<S>> {
         below.get(self.reference?)
     }
 }
