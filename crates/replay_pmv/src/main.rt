@@ -11,9 +11,10 @@ mod vectors;
 
 use lists::{Cursor, Unread};
 use pmv::predictors::Pmv;
+use pmv::update::PmvUpdateContext;
 use predictors::{Clearing, Setting};
 use std::io;
-use updates::{ResettingByClass, Updating};
+use updates::ResettingByClass;
 use vectors::{Decoding, Reconstructing};
 
 /// A case by its kind.
@@ -25,14 +26,14 @@ fn judge(pmv: &mut Pmv, case: &mut Cursor<'_>) -> Result<bool, Unread> {
         4 => record::by_value::<Decoding>(case),
         5 => record::by_value::<Reconstructing>(case),
         6 => components::scaling(case),
-        7 => record::by_value::<Updating>(case),
+        7 => record::by_value::<PmvUpdateContext>(case),
         8 => record::by_value::<ResettingByClass>(case),
         9 => record::by_value::<Setting>(case),
         10 => record::by_value::<Clearing>(case),
         11 => predictors::making(case),
         14 => record::lent::<Decoding>(pmv, case),
         15 => record::lent::<Reconstructing>(pmv, case),
-        17 => record::lent::<Updating>(pmv, case),
+        17 => record::lent::<PmvUpdateContext>(pmv, case),
         18 => record::lent::<ResettingByClass>(pmv, case),
         19 => record::lent::<Setting>(pmv, case),
         20 => record::lent::<Clearing>(pmv, case),

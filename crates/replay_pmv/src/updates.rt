@@ -1,38 +1,30 @@
 //! Updates and resets of a record.
 use crate::fields;
+use crate::fields::number_and_value;
 use crate::record::Call;
 use lists::{Cursor, Unread};
 use pmv::kinds::PictureCodingType;
 use pmv::predictors::Pmv;
 use pmv::update::{PmvUpdateContext, PmvUpdateOutcome, UpdateRefusal};
 
-/// `STRUCTURE PRESENT TYPE FORWARD BACKWARD INTRA CONCEALMENT`.
-#[derive(Clone, Copy)]
-pub struct Updating {
-    ctx: PmvUpdateContext,
-}
-
 /// The number of an answer, 0 for acceptance, and its outcome's, 0 where it is refused.
 fn numbers_of(answer: Result<PmvUpdateOutcome, UpdateRefusal>) -> (i64, i64) {
-    match answer {
-        Ok(outcome) => (0, i64::from(u8::from(outcome))),
-        Err(refusal) => (i64::from(u32::from(refusal)), 0),
-    }
+    let number = answer.map(|outcome| i64::from(u8::from(outcome)));
+    number_and_value(number, 0)
 }
 
-impl Call for Updating {
+/// An update, by what its tables choose by: `STRUCTURE PRESENT TYPE FORWARD BACKWARD INTRA CONCEALMENT`.
+impl Call for PmvUpdateContext {
     type Answer = (i64, i64);
 
     fn read(case: &mut Cursor<'_>) -> Result<Self, Unread> {
-        Ok(Updating {
-            ctx: PmvUpdateContext {
-                picture_structure: fields::kind(case.number()?)?,
-                prediction_type: fields::prediction_type(case)?,
-                macroblock_motion_forward: fields::flag(case)?,
-                macroblock_motion_backward: fields::flag(case)?,
-                macroblock_intra: fields::flag(case)?,
-                concealment_motion_vectors: fields::flag(case)?,
-            },
+        Ok(PmvUpdateContext {
+            picture_structure: fields::kind(case.number()?)?,
+            prediction_type: fields::prediction_type(case)?,
+            macroblock_motion_forward: fields::flag(case)?,
+            macroblock_motion_backward: fields::flag(case)?,
+            macroblock_intra: fields::flag(case)?,
+            concealment_motion_vectors: fields::flag(case)?,
         })
     }
 
@@ -42,12 +34,12 @@ impl Call for Updating {
     }
 
     fn by_value(self, pmv: Pmv) -> (Self::Answer, Pmv) {
-        let u = pmv::update::updated_predictors(pmv, self.ctx);
+        let u = pmv::update::updated_predictors(pmv, self);
         (numbers_of(u.answer), u.pmv)
     }
 
     fn lent(self, pmv: &mut Pmv) -> Self::Answer {
-        numbers_of(pmv::lent::update_predictors(pmv, self.ctx))
+        numbers_of(pmv::lent::update_predictors(pmv, self))
     }
 }
 
