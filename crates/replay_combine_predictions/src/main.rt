@@ -1,7 +1,7 @@
 //! Replays the averaging list, which has the Rust's answers, on `combine_predictions`. The list's head says what its fields mean.
 #![tactic(auto)]
 
-use combine_predictions::{Averaged, PredictionDirection};
+use combine_predictions::{AveragingRefusal, PredictionDirection};
 use lists::{Cursor, Unread};
 use std::alloc::Global;
 use std::io;
@@ -9,12 +9,11 @@ use std::io;
 /// No list has a longer byte string.
 const MOST: usize = 1024;
 
-/// The number of an answer: 0 is acceptance's. No refusal has it: 256 stands for such an answer.
-fn number_of(a: Averaged) -> i64 {
-    match a {
-        Averaged::Done => 0,
-        Averaged::Refused(0) => 256,
-        Averaged::Refused(n) => i64::from(n),
+/// The number of an answer, 0 for acceptance.
+fn number_of(answer: Result<(), AveragingRefusal>) -> i64 {
+    match answer {
+        Ok(()) => 0,
+        Err(refusal) => i64::from(u32::from(refusal)),
     }
 }
 

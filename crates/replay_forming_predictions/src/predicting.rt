@@ -1,8 +1,6 @@
 //! Samples and blocks of a plane.
 use crate::plane::Plane;
-use forming_predictions::{
-    BlockSize, FieldParity, FieldReference, Predicted, ReferencePlane, Sampled,
-};
+use forming_predictions::{BlockSize, FieldParity, FieldReference, FormingRefusal, ReferencePlane};
 use lists::{Cursor, Unread};
 use std::alloc::Global;
 
@@ -33,27 +31,22 @@ fn read_source(plane: &Plane, case: &mut Cursor<'_>) -> Result<Source, Unread> {
     }
 }
 
-/// A refusal's number. No refusal has number 0, which is acceptance's: 256 stands for such an answer.
-fn number_of(refused: u8) -> i64 {
-    if refused == 0 {
-        256
-    } else {
-        i64::from(refused)
-    }
+fn number_of(refusal: FormingRefusal) -> i64 {
+    i64::from(u32::from(refusal))
 }
 
 /// The number of an answer, 0 for acceptance, and its sample, 0 where it is refused.
-fn number_and_sample(given: Sampled) -> (i64, i64) {
+fn number_and_sample(given: Result<u8, FormingRefusal>) -> (i64, i64) {
     match given {
-        Sampled::Sample(v) => (0, i64::from(v)),
-        Sampled::Refused(n) => (number_of(n), 0),
+        Ok(sample) => (0, i64::from(sample)),
+        Err(refusal) => (number_of(refusal), 0),
     }
 }
 
-fn number_of_block(given: Predicted) -> i64 {
+fn number_of_block(given: Result<(), FormingRefusal>) -> i64 {
     match given {
-        Predicted::Done => 0,
-        Predicted::Refused(n) => number_of(n),
+        Ok(()) => 0,
+        Err(refusal) => number_of(refusal),
     }
 }
 

@@ -1,0 +1,95 @@
+//! A step by the calls that predict and place.
+use crate::outcomes::Refusal;
+use crate::pictures;
+use crate::pictures::{Component, Picture};
+use crate::steps::Step;
+use forming_predictions::ReferencePlane;
+use inter_reconstruction::frames::{FrameBuffer, FrameGeometry};
+use inter_reconstruction::macroblock::{Accepted, PredictionRefusal, predict_macroblock_planes};
+use inter_reconstruction::motion::{DirectionVectors, Motion};
+use inter_reconstruction::placing::place_macroblock;
+use pmv::kinds::ChromaFormat;
+
+const GEOMETRY: FrameGeometry = FrameGeometry {
+    width: 48,
+    height: 48,
+    chroma_format: ChromaFormat::Yuv420,
+};
+
+const CHROMINANCE: ReferencePlane = ReferencePlane {
+    width: 24,
+    height: 24,
+};
+
+/// What every picture declares.
+const FRAME: FrameBuffer = FrameBuffer {
+    geometry: GEOMETRY,
+    y: ReferencePlane {
+        width: 48,
+        height: 48,
+    },
+    cb: CHROMINANCE,
+    cr: CHROMINANCE,
+};
+
+/// A plane of a reference, empty where that is absent.
+fn bytes(reference: Option<&Picture<u8>>, component: Component) -> &[u8] {
+    match reference {
+        Some(picture) => picture.plane(component),
+        None => &[],
+    }
+}
+
+fn predict<V: DirectionVectors>(
+    below: &[Picture<u8>],
+    step: Step,
+    motion: Motion<V>,
+    out: &mut [u8],
+) -> Result<Accepted, PredictionRefusal> {
+    let forward = step.forward.picture(below);
+    let backward = step.backward.picture(below);
+    predict_macroblock_planes(
+        GEOMETRY,
+        forward.map(|_| FRAME),
+        bytes(forward, Component::Y),
+        bytes(forward, Component::Cb),
+        bytes(forward, Component::Cr),
+        backward.map(|_| FRAME),
+        bytes(backward, Component::Y),
+        bytes(backward, Component::Cb),
+        bytes(backward, Component::Cr),
+        usize::from(step.column),
+        usize::from(step.row),
+        motion,
+        out,
+    )
+}
+
+/// What prediction refuses is not placed.
+pub fn take(pictures: &mut [Picture<u8>], step: Step) -> Result<(), Refusal> {
+    let (below, target) = pictures::at(pictures, step.target).ok_or(Refusal::Other)?;
+    let mut out = [0u8; 384];
+    if step.field_based {
+        let motion = Motion {
+            forward: step.forward.motion,
+            backward: step.backward.motion,
+        };
+        predict(below, step, motion, &mut out)?;
+    } else {
+        let motion = Motion {
+            forward: step.forward.motion.map(|vectors| vectors.top.vector),
+            backward: step.backward.motion.map(|vectors| vectors.top.vector),
+        };
+        predict(below, step, motion, &mut out)?;
+    }
+    place_macroblock(
+        FRAME,
+        usize::from(step.column),
+        usize::from(step.row),
+        &out,
+        &mut target.y,
+        &mut target.cb,
+        &mut target.cr,
+    )?;
+    Ok(())
+}
