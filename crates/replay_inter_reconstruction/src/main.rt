@@ -1,15 +1,16 @@
 //! Replays the macroblocks list, which has the Rust's answers, on `inter_reconstruction`. The list's head says what its fields mean.
 #![tactic(auto)]
 
-mod draws;
 mod fields;
 mod predicting;
-mod references;
 
+use drawn::References;
 use lists::{Cursor, Unread};
-use references::References;
 use std::alloc::Global;
 use std::io;
+
+/// No list has more samples of a reference.
+const MOST_SAMPLES: usize = 65536;
 
 /// A case by its kind. One that sets the planes of a reference agrees.
 fn judge(
@@ -19,7 +20,7 @@ fn judge(
 ) -> Result<bool, Unread> {
     match case.integer()? {
         1 => {
-            references.set(alloc, case)?;
+            references.set(alloc, case, MOST_SAMPLES)?;
             Ok(true)
         }
         2 => predicting::macroblock(alloc, references, case, fields::frame_direction),

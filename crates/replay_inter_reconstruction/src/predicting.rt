@@ -1,6 +1,6 @@
 //! Predicting a macroblock.
 use crate::fields;
-use crate::references::{Planes, References};
+use drawn::{Planes, References};
 use inter_reconstruction::frames::FrameBuffer;
 use inter_reconstruction::macroblock::{Accepted, PredictionRefusal, predict_macroblock_planes};
 use inter_reconstruction::motion::{DirectionVectors, Motion, UsedDirections};

@@ -2,7 +2,6 @@
 //! has no such call. The list's head says what its fields mean.
 #![tactic(auto)]
 
-mod draws;
 mod placing;
 
 use lists::{Cursor, Unread};

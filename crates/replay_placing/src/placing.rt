@@ -1,8 +1,5 @@
 //! Placing a macroblock in planes that are drawn.
-ghost use Rattle.std.specs.Prelude.{◌≤◌};
-
-use crate::draws::Draws;
-use forming_predictions::ReferencePlane;
+use drawn::{Draws, Extent};
 use inter_reconstruction::frames::{FrameBuffer, FrameGeometry};
 use inter_reconstruction::placing::{PlacingRefusal, place_macroblock};
 use lists::{Cursor, Unread};
@@ -17,14 +14,6 @@ const MOST_SAMPLES: usize = 262400;
 
 const MOST_BYTES: usize = 1024;
 
-/// The sides of a plane, and how many samples it has, which need not be as many as the sides say.
-#[derive(Clone, Copy)]
-struct Extent {
-    sides: ReferencePlane,
-    length: usize,
-    ghost bounded: { length ≤ 262400 },
-}
-
 /// `WIDTH HEIGHT CHROMA`.
 fn geometry(case: &mut Cursor<'_>) -> Result<FrameGeometry, Unread> {
     Ok(FrameGeometry {
@@ -34,21 +23,6 @@ fn geometry(case: &mut Cursor<'_>) -> Result<FrameGeometry, Unread> {
             |_| Unread::Malformed,
         )?,
     })
-}
-
-impl Extent {
-    /// `WIDTH HEIGHT LENGTH`.
-    fn read(case: &mut Cursor<'_>) -> Result<Extent, Unread> {
-        let sides = ReferencePlane {
-            width: case.number()?,
-            height: case.number()?,
-        };
-        let length = case.number::<usize>()?;
-        if length > MOST_SAMPLES {
-            return Err(Unread::Malformed);
-        }
-        Ok(Extent { sides, length })
-    }
 }
 
 /// The number that tells bytes in their order. The modulus is a prime and the factor one of its primitive roots, so that one other byte
@@ -71,9 +45,9 @@ fn number_of(given: Result<(), PlacingRefusal>) -> u64 {
 /// WIDTH on: whether the number and all bytes of the planes are as listed, and what is behind the planes as it was.
 pub fn macroblock(alloc: Global, case: &mut Cursor<'_>) -> Result<bool, Unread> {
     let geometry = geometry(case)?;
-    let y = Extent::read(case)?;
-    let cb = Extent::read(case)?;
-    let cr = Extent::read(case)?;
+    let y = Extent::read(case, MOST_SAMPLES)?;
+    let cb = Extent::read(case, MOST_SAMPLES)?;
+    let cr = Extent::read(case, MOST_SAMPLES)?;
     let mb_col = case.number()?;
     let mb_row = case.number()?;
     let count = case.number::<usize>()?;
