@@ -2,15 +2,14 @@
 //! frame and of a field; the mean of two predictions and a choice of one; and refusals.
 #![tactic(auto)]
 
-use combine_predictions::{Averaged, PredictionDirection};
-use forming_predictions::{BlockSize, FieldParity, FieldReference, Predicted, ReferencePlane};
-use pmv::component::MotionResidual;
+use combine_predictions::PredictionDirection;
+use forming_predictions::{BlockSize, FieldParity, FieldReference, FormingRefusal, ReferencePlane};
 use pmv::kinds::{
-    ChromaFormat, Direction, MotionType, MvFormat, PictureStructure, PredictionType, VectorIndex,
+    ChromaFormat, Direction, MvFormat, PictureStructure, PredictionType, VectorIndex,
 };
 use pmv::predictors::Pmv;
-use pmv::update::{PmvUpdateContext, Updated};
-use pmv::vector::{DecodedVector, MotionVector, ReconstructedVector};
+use pmv::update::PmvUpdateContext;
+use pmv::vector::{DecodedVector, MotionVector};
 use std::io;
 
 fn say(rt: &impl Print, text: &str) -> io::Result<()> {

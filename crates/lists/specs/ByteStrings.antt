@@ -1,5 +1,5 @@
 -- Byte strings: two hexadecimal digits to a byte, and a lone minus for the empty string. The format is this repository's.
-use Rattle.std.specs.Prelude.{◌≡◌, Bool, true, ◌&&◌, ◌||◌, cond, List, ℕ, ◌+◌, ◌*◌, ◌-◌, ◌/◌, ◌%◌, eqb, leb, ltb, length, get_or, Result, Ok, Err}
+use Rattle.std.specs.Prelude.{◌≡◌, Bool, true, ◌&&◌, ◌||◌, cond, List, ◌++◌, ℕ, ◌+◌, ◌*◌, ◌-◌, ◌/◌, ◌%◌, eqb, leb, ltb, length, get_or, drop, Result, Ok, Err}
 use Rattle.std.specs.List.{prefix_len}
 use Rattle.laws.specs.Tabulate.{tabulate}
 use Rattle.lists.specs.declared.class.Class.TheVariants.{Digit, Hex}
@@ -24,6 +24,10 @@ byte_at w k = hex_of (get_or w (2 * k) 0) * 16 + hex_of (get_or w (2 * k + 1) 0)
 
 abbrev pub bytes_of : List ℕ → List ℕ
 bytes_of w = tabulate (length w / 2) (byte_at w)
+
+-- read into a buffer that holds o: the bytes go to its front, and where no byte string stands it keeps what it has
+abbrev pub stored : List ℕ → List ℕ → List ℕ
+stored w o = cond (is_bytes w (length o)) (bytes_of w ++ drop (length w / 2) o) o
 
 -- what is read as a byte string at a place: only where none stands there, the line is malformed
 abbrev pub BytesAt : List ℕ → ℕ → ℕ → Result (List ℕ) Unread → Type 0

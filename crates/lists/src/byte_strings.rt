@@ -1,10 +1,11 @@
 //! Hexadecimal byte strings.
-ghost use Rattle.std.specs.Prelude.{◌≡◌, ◌+◌, ◌*◌, ◌/◌, ◌≤◌, length, Ok, Err};
+ghost use Rattle.std.specs.Prelude.{◌≡◌, ◌+◌, ◌*◌, ◌/◌, ◌≤◌, cond, length, Ok, Err};
 ghost use Rattle.std.specs.Result.{MatchResult};
 ghost use Rattle.laws.specs.Tabulate.{tabulate};
 ghost use Rattle.lists.specs.Places.{MovesTo};
-ghost use Rattle.lists.specs.Text.{word_end};
-ghost use Rattle.lists.specs.ByteStrings.{hex_of, bytes_of, is_bytes, ramp, BytesAt};
+ghost use Rattle.lists.specs.declared.unread.Unread.TheVariants.{Malformed};
+ghost use Rattle.lists.specs.Text.{word_at, word_end};
+ghost use Rattle.lists.specs.ByteStrings.{hex_of, bytes_of, is_bytes, stored, ramp, BytesAt};
 
 use crate::class::Class;
 use crate::cursor::Cursor;
@@ -12,6 +13,22 @@ use crate::unread::Unread;
 use std::alloc::Allocator;
 
 impl Cursor<'_> {
+    /// Reads a byte string into the front of `out`, and gives its length. Where none stands that `out` has room for, `out` stays as it was.
+    pub fn bytes_into(&mut self, out: &mut [u8]) -> Result<usize, Unread>
+        ensures count { let word = word_at self.old.text.now self.old.at in
+            result ≡ cond (is_bytes word (length out.old)) (Ok (length word / 2)) (Err Malformed) }
+        ensures buffer { out.new ≡ stored (word_at self.old.text.now self.old.at) out.old }
+        ensures moved { MovesTo self.old self.new (word_end self.old.text.now self.old.at) }
+    {
+        let word = self.word();
+        if !is_bytes(word, out.len()) {
+            return Err(Unread::Malformed);
+        }
+        let n = word.len() / 2;
+        store(word, &mut out[..n]);
+        Ok(n)
+    }
+
     /// Reads a byte string of at most so many bytes.
     pub fn bytes<A: Allocator>(&mut self, alloc: A, most: usize) -> Result<Vec<u8, A>, Unread>
         ensures bytes { MatchResult result (λ v. BytesAt self.old.text.now self.old.at most (Ok v.items)) (λ e. BytesAt self.old.text.now self.old.at most (Err e)) }

@@ -1,0 +1,52 @@
+-- What a line says of the planes of a reference.
+use Rattle.std.specs.Prelude.{◌≡◌, List, [], ℕ, ◌+◌, ◌≤◌, ℤ, pos}
+use Rattle.lists.specs.Text.{word_at, word_end}
+use Rattle.lists.specs.Numbers.{number_of}
+use Rattle.drawn.specs.Draws.{number_after, drawn}
+use Rattle.drawn.specs.declared.references.Extent.{Extent}
+use Rattle.drawn.specs.declared.references.Plane.{Plane}
+use Rattle.drawn.specs.declared.references.Planes.{Planes}
+
+pub record IsEmpty (p : Plane) : Type 0 where
+  pub width : p.sides.width ≡ 0
+  pub height : p.sides.height ≡ 0
+  pub samples : p.samples.items ≡ []
+
+pub record AreEmpty (p : Planes) : Type 0 where
+  pub y : IsEmpty p.y
+  pub cb : IsEmpty p.cb
+  pub cr : IsEmpty p.cr
+
+-- the number at a place
+abbrev pub field : List ℕ → ℕ → ℤ
+field s at = number_of (word_at s at)
+
+-- the place behind three words
+abbrev pub third_end : List ℕ → ℕ → ℕ
+third_end s at = word_end s (word_end s (word_end s at))
+
+-- WIDTH HEIGHT LENGTH
+pub record ExtentAt (s : List ℕ) (at : ℕ) (e : Extent) : Type 0 where
+  pub width : pos e.sides.width ≡ field s at
+  pub height : pos e.sides.height ≡ field s (word_end s at)
+  pub length : pos e.length ≡ field s (word_end s (word_end s at))
+
+-- a plane of an extent, whose samples are the next of a run
+pub record DrawnFrom (last : ℕ) (e : Extent) (p : Plane) : Type 0 where
+  pub sides : p.sides ≡ e.sides
+  pub samples : p.samples.items ≡ drawn last e.length
+
+-- those of each plane, and SEED, from which the samples of all three are one run
+pub record PlanesAt (s : List ℕ) (at most : ℕ) (p : Planes) : Type 0 where
+  pub seed : ℕ
+  pub y : Extent
+  pub cb : Extent
+  pub cr : Extent
+  pub y_at : ExtentAt s at y
+  pub cb_at : ExtentAt s (third_end s at) cb
+  pub cr_at : ExtentAt s (third_end s (third_end s at)) cr
+  pub seed_at : pos seed ≡ field s (third_end s (third_end s (third_end s at)))
+  pub few : y.length + cb.length + cr.length ≤ most
+  pub y_drawn : DrawnFrom seed y p.y
+  pub cb_drawn : DrawnFrom (number_after seed y.length) cb p.cb
+  pub cr_drawn : DrawnFrom (number_after (number_after seed y.length) cb.length) cr p.cr
