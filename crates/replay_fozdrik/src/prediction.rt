@@ -1,254 +1,269 @@
-//! The lines of the entry points that predict.
-use crate::line::{Judged, byte_at, i32_at, if_read, is_as_listed, read_numbers, size_at, u32_at};
-use crate::planes::{Planes, cb_of, cr_of, y_of};
+//! The lines of the entry points that predict. What is absent may have any numbers beside it, which are passed as they stand.
+use crate::lent::Lent;
+use drawn::References;
+use entry_points::prediction::{
+    fozdrik_predict_field_macroblock, fozdrik_predict_frame_macroblock,
+};
+use lists::{Cursor, Unread};
+use std::alloc::Global;
 
-fn predict_frame(
-    n: &[i64; 40],
-    forward: Planes,
-    forward_samples: &[u8],
-    backward: Planes,
-    backward_samples: &[u8],
-    out: &mut [u8],
-) -> u32 {
-    let forward_y = forward.y;
-    let forward_cb = forward.cb;
-    let forward_cr = forward.cr;
-    let backward_y = backward.y;
-    let backward_cb = backward.cb;
-    let backward_cr = backward.cr;
-    entry_points::prediction::fozdrik_predict_frame_macroblock(
-        size_at(n, 0),
-        size_at(n, 1),
-        u32_at(n, 2),
-        size_at(n, 3),
-        size_at(n, 4),
-        u32_at(n, 5),
-        size_at(n, 6),
-        size_at(n, 7),
-        u32_at(n, 8),
-        forward_y.width,
-        forward_y.height,
-        forward_cb.width,
-        forward_cb.height,
-        forward_cr.width,
-        forward_cr.height,
-        y_of(forward, forward_samples),
-        cb_of(forward, forward_samples),
-        cr_of(forward, forward_samples),
-        u32_at(n, 9),
-        size_at(n, 10),
-        size_at(n, 11),
-        u32_at(n, 12),
-        backward_y.width,
-        backward_y.height,
-        backward_cb.width,
-        backward_cb.height,
-        backward_cr.width,
-        backward_cr.height,
-        y_of(backward, backward_samples),
-        cb_of(backward, backward_samples),
-        cr_of(backward, backward_samples),
-        u32_at(n, 13),
-        i32_at(n, 14),
-        i32_at(n, 15),
-        u32_at(n, 16),
-        i32_at(n, 17),
-        i32_at(n, 18),
-        out,
-    )
+/// No list has a longer output.
+const MOST: usize = 1024;
+
+/// What a frame declares.
+#[derive(Clone, Copy)]
+struct Declared {
+    width: usize,
+    height: usize,
+    chroma_format: u32,
 }
 
-fn predict_field(
-    n: &[i64; 40],
-    forward: Planes,
-    forward_samples: &[u8],
-    backward: Planes,
-    backward_samples: &[u8],
-    out: &mut [u8],
-) -> u32 {
-    let forward_y = forward.y;
-    let forward_cb = forward.cb;
-    let forward_cr = forward.cr;
-    let backward_y = backward.y;
-    let backward_cb = backward.cb;
-    let backward_cr = backward.cr;
-    entry_points::prediction::fozdrik_predict_field_macroblock(
-        size_at(n, 0),
-        size_at(n, 1),
-        u32_at(n, 2),
-        size_at(n, 3),
-        size_at(n, 4),
-        u32_at(n, 5),
-        size_at(n, 6),
-        size_at(n, 7),
-        u32_at(n, 8),
-        forward_y.width,
-        forward_y.height,
-        forward_cb.width,
-        forward_cb.height,
-        forward_cr.width,
-        forward_cr.height,
-        y_of(forward, forward_samples),
-        cb_of(forward, forward_samples),
-        cr_of(forward, forward_samples),
-        u32_at(n, 9),
-        size_at(n, 10),
-        size_at(n, 11),
-        u32_at(n, 12),
-        backward_y.width,
-        backward_y.height,
-        backward_cb.width,
-        backward_cb.height,
-        backward_cr.width,
-        backward_cr.height,
-        y_of(backward, backward_samples),
-        cb_of(backward, backward_samples),
-        cr_of(backward, backward_samples),
-        u32_at(n, 13),
-        u32_at(n, 14),
-        i32_at(n, 15),
-        i32_at(n, 16),
-        u32_at(n, 17),
-        i32_at(n, 18),
-        i32_at(n, 19),
-        u32_at(n, 20),
-        u32_at(n, 21),
-        i32_at(n, 22),
-        i32_at(n, 23),
-        u32_at(n, 24),
-        i32_at(n, 25),
-        i32_at(n, 26),
-        out,
-    )
+#[derive(Clone, Copy)]
+struct Reference {
+    present: u32,
+    declared: Declared,
 }
 
-/// Either call on the first bytes of `room`. No list lends more than there is room for.
-fn predict(
-    n: &[i64; 40],
-    is_frame: bool,
-    forward: Planes,
-    forward_samples: &[u8],
-    backward: Planes,
-    backward_samples: &[u8],
-    room: &mut [u8],
-    length: usize,
-) -> u32 {
-    if length > room.len() {
-        return 4294967295;
+/// What stands in front of the motion.
+#[derive(Clone, Copy)]
+struct Macroblock {
+    dest: Declared,
+    mb_col: usize,
+    mb_row: usize,
+    forward: Reference,
+    backward: Reference,
+}
+
+#[derive(Clone, Copy)]
+struct Vector {
+    horizontal: i32,
+    vertical: i32,
+}
+
+#[derive(Clone, Copy)]
+struct FrameDirection {
+    present: u32,
+    vector: Vector,
+}
+
+#[derive(Clone, Copy)]
+struct FieldVector {
+    field: u32,
+    vector: Vector,
+}
+
+#[derive(Clone, Copy)]
+struct FieldDirection {
+    present: u32,
+    top: FieldVector,
+    bottom: FieldVector,
+}
+
+impl Declared {
+    /// `WIDTH HEIGHT CHROMA`.
+    fn read(case: &mut Cursor<'_>) -> Result<Declared, Unread> {
+        Ok(Declared {
+            width: case.number()?,
+            height: case.number()?,
+            chroma_format: case.number()?,
+        })
     }
-    if is_frame {
-        return predict_frame(
-            n,
-            forward,
-            forward_samples,
-            backward,
-            backward_samples,
-            &mut room[0..length],
-        );
+}
+
+impl Reference {
+    /// `PRESENT WIDTH HEIGHT CHROMA`.
+    fn read(case: &mut Cursor<'_>) -> Result<Reference, Unread> {
+        Ok(Reference {
+            present: case.number()?,
+            declared: Declared::read(case)?,
+        })
     }
-    predict_field(
-        n,
-        forward,
-        forward_samples,
-        backward,
-        backward_samples,
-        &mut room[0..length],
-    )
+}
+
+impl Macroblock {
+    /// `WIDTH HEIGHT CHROMA MB_COL MB_ROW`, and each reference.
+    fn read(case: &mut Cursor<'_>) -> Result<Macroblock, Unread> {
+        Ok(Macroblock {
+            dest: Declared::read(case)?,
+            mb_col: case.number()?,
+            mb_row: case.number()?,
+            forward: Reference::read(case)?,
+            backward: Reference::read(case)?,
+        })
+    }
+}
+
+impl Vector {
+    /// `HORIZONTAL VERTICAL`.
+    fn read(case: &mut Cursor<'_>) -> Result<Vector, Unread> {
+        Ok(Vector {
+            horizontal: case.number()?,
+            vertical: case.number()?,
+        })
+    }
+}
+
+impl FrameDirection {
+    /// `PRESENT HORIZONTAL VERTICAL`.
+    fn read(case: &mut Cursor<'_>) -> Result<FrameDirection, Unread> {
+        Ok(FrameDirection {
+            present: case.number()?,
+            vector: Vector::read(case)?,
+        })
+    }
+}
+
+impl FieldVector {
+    /// `FIELD HORIZONTAL VERTICAL`.
+    fn read(case: &mut Cursor<'_>) -> Result<FieldVector, Unread> {
+        Ok(FieldVector {
+            field: case.number()?,
+            vector: Vector::read(case)?,
+        })
+    }
+}
+
+impl FieldDirection {
+    /// `PRESENT FIELD HORIZONTAL VERTICAL FIELD HORIZONTAL VERTICAL`: the top field's vector before the bottom field's.
+    fn read(case: &mut Cursor<'_>) -> Result<FieldDirection, Unread> {
+        Ok(FieldDirection {
+            present: case.number()?,
+            top: FieldVector::read(case)?,
+            bottom: FieldVector::read(case)?,
+        })
+    }
 }
 
 /// `FILL LENGTH ANSWER AFTER`: makes the call, and compares the number and the output.
-fn compared(
-    s: &[u8],
-    at: usize,
-    n: &[i64; 40],
-    is_frame: bool,
-    fill: u8,
-    length: usize,
-    answer: u32,
-    forward: Planes,
-    forward_samples: &[u8],
-    backward: Planes,
-    backward_samples: &[u8],
-) -> Judged {
-    let mut room = [0u8; 1040];
-    let mut kept = [0u8; 1040];
-    let mut after = [0u8; 1024];
-    lists::fill(&mut room, fill);
-    lists::fill(&mut kept, fill);
-    let bytes = lists::read_bytes(s, at, &mut after);
-    let given = predict(
-        n,
-        is_frame,
-        forward,
-        forward_samples,
-        backward,
-        backward_samples,
-        &mut room,
-        length,
-    );
-    let agrees = is_as_listed(&room, &kept, length, lists::front(&after, bytes.count));
-    Judged {
-        agrees: (given == answer) & agrees,
-        next: bytes.next,
-        good: bytes.good & (length <= 1024),
-    }
+fn compared<C: FnOnce(&mut [u8]) -> u32>(
+    alloc: Global,
+    case: &mut Cursor<'_>,
+    call: C,
+) -> Result<bool, Unread>
+    requires { C.IsAlwaysCallable call }
+{
+    let mut out = Lent::filled(alloc, case, MOST)?;
+    let answer = case.number::<u32>()?;
+    let after = case.bytes(alloc, MOST)?;
+    let given = call(out.lent());
+    Ok(given == answer && out.is_as_listed(&after))
 }
 
-/// `WIDTH HEIGHT CHROMA MB_COL MB_ROW`, `PRESENT WIDTH HEIGHT CHROMA` of each reference, `PRESENT HORIZONTAL VERTICAL` of each direction,
-/// `FILL LENGTH ANSWER AFTER`.
-pub(crate) fn frame_case(
-    s: &[u8],
-    at: usize,
-    forward: Planes,
-    forward_samples: &[u8],
-    backward: Planes,
-    backward_samples: &[u8],
-) -> Judged {
-    let mut n = [0i64; 40];
-    let read = read_numbers(s, at, b"ssussussuussuuiiuiibsu", &mut n);
-    if_read(
-        compared(
-            s,
-            read.next,
-            &n,
-            true,
-            byte_at(&n, 19),
-            size_at(&n, 20),
-            u32_at(&n, 21),
-            forward,
-            forward_samples,
-            backward,
-            backward_samples,
-        ),
-        read.good,
-    )
+/// `4 WIDTH HEIGHT CHROMA MB_COL MB_ROW`, `PRESENT WIDTH HEIGHT CHROMA` of each reference, `PRESENT HORIZONTAL VERTICAL` of each direction,
+/// `FILL LENGTH ANSWER AFTER`, from WIDTH on. This call and the next one are two, with the numbers one by one, since C's are.
+pub fn frame(
+    alloc: Global,
+    references: &References,
+    case: &mut Cursor<'_>,
+) -> Result<bool, Unread> {
+    let m = Macroblock::read(case)?;
+    let d = FrameDirection::read(case)?;
+    let e = FrameDirection::read(case)?;
+    let forward = &references.forward;
+    let backward = &references.backward;
+    compared(alloc, case, |out| {
+        fozdrik_predict_frame_macroblock(
+            m.dest.width,
+            m.dest.height,
+            m.dest.chroma_format,
+            m.mb_col,
+            m.mb_row,
+            m.forward.present,
+            m.forward.declared.width,
+            m.forward.declared.height,
+            m.forward.declared.chroma_format,
+            forward.y.sides.width,
+            forward.y.sides.height,
+            forward.cb.sides.width,
+            forward.cb.sides.height,
+            forward.cr.sides.width,
+            forward.cr.sides.height,
+            &forward.y.samples,
+            &forward.cb.samples,
+            &forward.cr.samples,
+            m.backward.present,
+            m.backward.declared.width,
+            m.backward.declared.height,
+            m.backward.declared.chroma_format,
+            backward.y.sides.width,
+            backward.y.sides.height,
+            backward.cb.sides.width,
+            backward.cb.sides.height,
+            backward.cr.sides.width,
+            backward.cr.sides.height,
+            &backward.y.samples,
+            &backward.cb.samples,
+            &backward.cr.samples,
+            d.present,
+            d.vector.horizontal,
+            d.vector.vertical,
+            e.present,
+            e.vector.horizontal,
+            e.vector.vertical,
+            out,
+        )
+    })
 }
 
-/// The same with `PRESENT FIELD HORIZONTAL VERTICAL FIELD HORIZONTAL VERTICAL` of each direction.
-pub(crate) fn field_case(
-    s: &[u8],
-    at: usize,
-    forward: Planes,
-    forward_samples: &[u8],
-    backward: Planes,
-    backward_samples: &[u8],
-) -> Judged {
-    let mut n = [0i64; 40];
-    let read = read_numbers(s, at, b"ssussussuussuuuiiuiiuuiiuiibsu", &mut n);
-    if_read(
-        compared(
-            s,
-            read.next,
-            &n,
-            false,
-            byte_at(&n, 27),
-            size_at(&n, 28),
-            u32_at(&n, 29),
-            forward,
-            forward_samples,
-            backward,
-            backward_samples,
-        ),
-        read.good,
-    )
+/// The same with 5 and `PRESENT FIELD HORIZONTAL VERTICAL FIELD HORIZONTAL VERTICAL` of each direction.
+pub fn field(
+    alloc: Global,
+    references: &References,
+    case: &mut Cursor<'_>,
+) -> Result<bool, Unread> {
+    let m = Macroblock::read(case)?;
+    let d = FieldDirection::read(case)?;
+    let e = FieldDirection::read(case)?;
+    let forward = &references.forward;
+    let backward = &references.backward;
+    compared(alloc, case, |out| {
+        fozdrik_predict_field_macroblock(
+            m.dest.width,
+            m.dest.height,
+            m.dest.chroma_format,
+            m.mb_col,
+            m.mb_row,
+            m.forward.present,
+            m.forward.declared.width,
+            m.forward.declared.height,
+            m.forward.declared.chroma_format,
+            forward.y.sides.width,
+            forward.y.sides.height,
+            forward.cb.sides.width,
+            forward.cb.sides.height,
+            forward.cr.sides.width,
+            forward.cr.sides.height,
+            &forward.y.samples,
+            &forward.cb.samples,
+            &forward.cr.samples,
+            m.backward.present,
+            m.backward.declared.width,
+            m.backward.declared.height,
+            m.backward.declared.chroma_format,
+            backward.y.sides.width,
+            backward.y.sides.height,
+            backward.cb.sides.width,
+            backward.cb.sides.height,
+            backward.cr.sides.width,
+            backward.cr.sides.height,
+            &backward.y.samples,
+            &backward.cb.samples,
+            &backward.cr.samples,
+            d.present,
+            d.top.field,
+            d.top.vector.horizontal,
+            d.top.vector.vertical,
+            d.bottom.field,
+            d.bottom.vector.horizontal,
+            d.bottom.vector.vertical,
+            e.present,
+            e.top.field,
+            e.top.vector.horizontal,
+            e.top.vector.vertical,
+            e.bottom.field,
+            e.bottom.vector.horizontal,
+            e.bottom.vector.vertical,
+            out,
+        )
+    })
 }
