@@ -95,7 +95,7 @@ module _ {s : List ℕ} {w first step count x y dx dy n : ℕ} (f : ViewFits s w
       )
 
 -- ---- a block of 8 × 8: its row r starts r strides after the first one
-line_further : (first step w y r : ℕ) → line_start first step w (y + r) ≡ line_start first step w y + r * (step * w)
+pub line_further : (first step w y r : ℕ) → line_start first step w (y + r) ≡ line_start first step w y + r * (step * w)
 line_further first step w y r =
     rw (mul-add step y r, ← add_assoc first (step * y) (step * r), add-mul (first + step * y) (step * r) w, mul_comm step r, mul_assoc r step w)
 
