@@ -1,8 +1,8 @@
 //! Blocks whose reads all lie inside a view: nothing is clamped.
 
-ghost use Rattle.std.specs.Prelude.{◌≡◌, true, ℕ, ◌+◌, ◌*◌, ◌/◌, ◌%◌, ◌≤◌, pos, length};
+ghost use Rattle.std.specs.Prelude.{◌≡◌, true, ◌+◌, ◌*◌, ◌≤◌, pos, length};
 ghost use Rattle.laws.specs.Tabulate.{tabulate};
-ghost use Rattle.forming_predictions.specs.inner.Views.{two_of, Eights, inside_of};
+ghost use Rattle.forming_predictions.specs.inner.Views.{Eights, inside_of};
 ghost use Rattle.forming_predictions.specs.inner.Blocks.{cell_at, block_at, LiesIn};
 
 use crate::means::{any_row, form_row, two_row};
