@@ -4,25 +4,25 @@ use mathlib.Core.Path.{◌≡◌, refl, sym, ap, ◌∙◌}
 use mathlib.Core.Bool.{true, false}
 use mathlib.Core.List.{List}
 use Prim.Native.Nat.{ℕ, ◌+◌, ◌-◌, ◌*◌, ◌/◌, ◌%◌, ◌≤◌, ◌<◌}
-use native.Mathlib.Nat.{zero-add, add_assoc, zero-mul, one-mul, mul_comm, mul_assoc, mul-add, add-mul, mod-lt, div-lt_iff_lt-mul}
+use native.Mathlib.Nat.{zero-add, add_assoc, one-mul, mul_comm, mul_assoc, mul-add, add-mul, mod-lt, div-lt_iff_lt-mul}
 use native.Mathlib.Omega.{arith}
 use lib.Arith.{digits_lt, digits_div, digits_mod}
 use lib.Dec.{leb}
 use lib.IntN.{ℤ, pos, negsuc, ◌+ℤ◌, +ℤ_assoc}
 use lib.ListN.{length, get_or, take, drop}
-use lib.Seq.{length-take-le, take_at}
+use lib.Seq.{length-take-le}
 use borrow.Author.Tests.{leb-true}
 use Rattle.laws.specs.Tabulate.{tabulate}
 use Rattle.laws.proofs.Signed.{zp, zn, eq_z, add_z}
 use Rattle.laws.proofs.Rows.{row_in}
-use Rattle.laws.proofs.Tabulated.{tab_ext, length_tab, get_or_tab, tab_append}
+use Rattle.laws.proofs.Tabulated.{tab_ext, length_tab, get_or_tab}
 use Rattle.laws.proofs.Parts.{part_length, part_at}
 use Rattle.forming_predictions.specs.Lines.{clamp_to}
 use Rattle.forming_predictions.specs.Means.{mean4}
 use Rattle.forming_predictions.specs.Forming.{block_of}
-use Rattle.forming_predictions.specs.inner.Views.{line_start, view_read, spread, two_of, four_of, clamped_of, line_cell, picked, column_at, inside_of, ViewFits, SidesFit, Inside, ColumnsFit}
+use Rattle.forming_predictions.specs.inner.Views.{line_start, view_read, spread, four_of, clamped_of, line_cell, picked, column_at, inside_of, ViewFits, SidesFit, Inside, ColumnsFit}
 use Rattle.forming_predictions.proofs.Lines.{clamp_in, clamp_lt}
-use Rattle.forming_predictions.proofs.RowMeans.{mean4_same, two_is_four}
+use Rattle.forming_predictions.proofs.RowMeans.{mean4_same}
 
 -- sample c of row r
 pub row_of_block : (rule : ℤ → ℤ → ℕ) (x y : ℤ) (w r c : ℕ) → c < w
@@ -42,17 +42,6 @@ block_at w h rule x y k p = get_or_tab (w * h) _ k 0 p
 pub block_ext : (w h : ℕ) (f g : ℤ → ℤ → ℕ) (x y : ℤ) → ((a b : ℤ) → f a b ≡ g a b) → block_of w h f x y ≡ block_of w h g x y
 unfolding block_of
 block_ext w h f g x y e = tab_ext (w * h) _ _ (λ k p. e _ _)
-
--- ---- rows that are handed on
--- two rows that lie in the samples, handed on as parts, and what their samples are
-module _ (s : List ℕ) (w a b : ℕ) (p : a + w ≤ length s) (q : b + w ≤ length s) where
-  pub parts_two : (x dx gap c : ℕ) → b ≡ a + gap → x + dx + c < w
-      → two_of (take (a + w - a) (drop a s)) (take (b + w - b) (drop b s)) x dx c ≡ two_of s s (a + x) (gap + dx) c
-  unfolding two_of
-  parts_two x dx gap c e h =
-      let one : a + x + c ≡ a + (x + c) = omega arith in
-      let two : a + x + (gap + dx) + c ≡ b + (x + dx + c) = omega arith in
-      rw (one, two, part_at s a (a + w) (x + c) (omega arith), part_at s b (b + w) (x + dx + c) (omega arith))
 
 -- ---- a line that is read without clamping
 clamp_sum : (n a b : ℕ) → a + b < n → clamp_to n (pos a +ℤ pos b) ≡ a + b
@@ -94,50 +83,10 @@ module _ {s : List ℕ} {w first step count x y dx dy n : ℕ} (f : ViewFits s w
         clamp_sums w x k dx (omega (arith, i.right)),
       )
 
--- ---- a block of 8 × 8: its row r starts r strides after the first one
-line_further : (first step w y r : ℕ) → line_start first step w (y + r) ≡ line_start first step w y + r * (step * w)
+-- ---- a row r rows further starts r strides further
+pub line_further : (first step w y r : ℕ) → line_start first step w (y + r) ≡ line_start first step w y + r * (step * w)
 line_further first step w y r =
     rw (mul-add step y r, ← add_assoc first (step * y) (step * r), add-mul (first + step * y) (step * r) w, mul_comm step r, mul_assoc r step w)
-
-pub no_gap : (dx dy stride : ℕ) → dx + dy ≡ 0 → 0 ≡ dy * stride
-no_gap dx dy stride e = let z : dy ≡ 0 = omega arith in rw z (omega (arith, zero-mul stride))
-
--- the row below starts `gap` places further, and the right neighbour is `side` columns further
-module _ {s : List ℕ} {w first step count x y dx dy gap side : ℕ} (f : ViewFits s w first step count) (i : Inside w count x y dx dy 8 8)
-    (e : gap ≡ dy * (step * w)) (d : side ≡ dx) where
-  pub square_room : line_start first step w y + 7 * (step * w) + gap + w ≤ length s
-  square_room =
-      omega (
-        arith,
-        f.room (y + (dy + 7)) (omega (arith, i.below)),
-        line_further first step w y (dy + 7),
-        add-mul dy 7 (step * w),
-      )
-
-  square_cell : dx + dy ≤ 1 → (r c : ℕ) → r < 8 → c < 8
-      → two_of s s (line_start first step w y + r * (step * w) + x) (gap + side) c ≡ line_cell s w first step count (pos x) (pos (y + r)) dx dy c
-  unfolding two_of
-  square_cell n r c p q =
-      let here = line_start first step w (y + r) in
-      let below = line_start first step w (y + r + dy) in
-      let line : Inside w count x (y + r) dx dy 8 1 = record { right = i.right; below = omega (arith, i.below) } in
-      let one : line_start first step w y + r * (step * w) + x + c ≡ here + (x + c) = omega (arith, line_further first step w y r) in
-      let two : line_start first step w y + r * (step * w) + x + (gap + side) + c ≡ below + (x + dx + c) =
-      omega (arith, line_further first step w y r, line_further first step w (y + r) dy) in
-      rw (
-        one,
-        two,
-        ← part_at s here (here + w) (x + c) (omega (arith, i.right)),
-        ← part_at s below (below + w) (x + dx + c) (omega (arith, i.right)),
-      )
-      (two_is_four _ _ x dx dy c (omega arith) (omega arith) (λ b. omega arith) (same_rows f line refl refl) ∙ line_cells f line refl refl c q)
-
-  pub square_block : dx + dy ≤ 1
-      → tabulate 64 (λ (k : ℕ). two_of s s (line_start first step w y + k / 8 * (step * w) + x) (gap + side) (k % 8))
-      ≡ block_of 8 8 (λ (a b : ℤ). spread (view_read s w first step count) a b dx dy) (pos x) (pos y)
-  unfolding block_of line_cell
-  square_block n =
-      tab_ext 64 _ _ (λ k p. square_cell n (k / 8) (k % 8) (omega arith) (mod-lt k (omega arith)))
 
 -- ---- lines that are clamped
 module _ {s : List ℕ} {w first step count : ℕ} (f : ViewFits s w first step count) (y : ℤ) {a : ℕ} (p : a ≡ line_start first step w (clamp_to count y))
@@ -309,12 +258,6 @@ unfolding inside_of
 inside_yes (pos a) n limit e = (refl, leb-true (a + n) limit e)
 inside_yes (negsuc a) n limit e = let z : ◌≡◌ {A = ℕ} 0 1 = cc in absurd (omega arith)
 
--- ---- fronts of local arrays: the columns that a block reads, and room for its samples
+-- ---- the front of a local array: room for the samples that a block reads
 pub front : (l : List ℕ) (n : ℕ) → n ≤ length l → length (take (n - 0) l) ≡ n
 front l n h = length-take-le (n - 0) l (omega arith) ∙ omega arith
-
-pub front_tab : (m n : ℕ) (f : ℕ → ℕ) → m ≤ n → take (m - 0) (tabulate n f) ≡ tabulate m f
-front_tab m n f h =
-    let all : n ≡ m + (n - m) = omega arith in
-    let here : m - 0 ≡ m = omega arith in
-    rw (here, all, ← tab_append m (n - m) f) (take_at (tabulate m f) _ m (length_tab m f))

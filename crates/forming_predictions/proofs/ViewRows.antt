@@ -2,7 +2,8 @@
 -- Assumes nothing.
 use mathlib.Core.Path.{◌≡◌, refl, ap, ◌∙◌}
 use mathlib.Core.List.{List}
-use Prim.Native.Nat.{ℕ, ◌+◌, ◌<◌}
+use Prim.Native.Nat.{ℕ, ◌+◌, ◌*◌, ◌≤◌, ◌<◌}
+use native.Mathlib.Nat.{one-mul}
 use native.Mathlib.Omega.{arith}
 use lib.IntN.{ℤ, pos}
 use lib.ListN.{length, get_or}
@@ -13,7 +14,7 @@ use Rattle.forming_predictions.specs.inner.Blocks.{row_at, read, cell_at, picked
 use Rattle.forming_predictions.specs.declared.view.View.{View}
 use Rattle.forming_predictions.specs.declared.view.Neighbour.{Neighbour}
 use Rattle.forming_predictions.proofs.Lines.{clamp_lt}
-use Rattle.forming_predictions.proofs.Blocks.{line_cells, fetch_cells}
+use Rattle.forming_predictions.proofs.Blocks.{line_cells, fetch_cells, line_further}
 
 -- a row has the view's columns
 pub row_length : (v : View) (j : ℕ) → j < v.count → length (row_at v j) ≡ v.width
@@ -56,3 +57,15 @@ clamped_some v y = rw (clamped_length v y) v.fits.some
 
 pub clamped_same : (v : View) (y z : ℤ) → length (row_at v (clamp_to v.count z)) ≡ length (row_at v (clamp_to v.count y))
 clamped_same v y z = omega (arith, clamped_length v y, clamped_length v z)
+
+-- ---- a row that starts some strides after another one
+pub line_below : (v : View) (j n : ℕ) {a : ℕ} → a ≡ line_start v.first v.step v.width j
+    → a + n * (v.step * v.width) ≡ line_start v.first v.step v.width (j + n)
+line_below v j n e = omega (arith, e, line_further v.first v.step v.width j n)
+
+pub line_next : (v : View) (j : ℕ) {a k : ℕ} → a ≡ line_start v.first v.step v.width j → k ≡ j + 1
+    → a + v.step * v.width ≡ line_start v.first v.step v.width k
+line_next v j e k = rw k (omega (arith, line_below v j 1 e, one-mul (v.step * v.width)))
+
+pub row_room : (v : View) (j : ℕ) {a : ℕ} → j < v.count → a ≡ line_start v.first v.step v.width j → a + v.width ≤ length v.samples.now
+row_room v j h e = omega (arith, e, v.fits.room j h)

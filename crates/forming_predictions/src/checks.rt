@@ -1,6 +1,6 @@
 //! What the calls refuse.
 
-ghost use Rattle.std.specs.Prelude.{◌≡◌, not, length};
+ghost use Rattle.std.specs.Prelude.{◌≡◌, not};
 ghost use Rattle.combine_predictions.specs.Refusals.{cause, answered};
 ghost use Rattle.forming_predictions.specs.declared.FormingRefusal.TheVariants.{OutsideDomain};
 ghost use Rattle.forming_predictions.specs.Refusals.{position_fits, block_side_fits, plane_refusal, sample_refusal, block_refusal};

@@ -1,8 +1,8 @@
 //! Blocks whose reads all lie inside a view: nothing is clamped.
 
-ghost use Rattle.std.specs.Prelude.{◌≡◌, true, ℕ, ◌+◌, ◌*◌, ◌/◌, ◌%◌, ◌≤◌, pos, length};
+ghost use Rattle.std.specs.Prelude.{◌≡◌, true, ◌+◌, ◌*◌, ◌≤◌, pos, length};
 ghost use Rattle.laws.specs.Tabulate.{tabulate};
-ghost use Rattle.forming_predictions.specs.inner.Views.{two_of, Eights, inside_of};
+ghost use Rattle.forming_predictions.specs.inner.Views.{Eights, inside_of};
 ghost use Rattle.forming_predictions.specs.inner.Blocks.{cell_at, block_at, LiesIn};
 
 use crate::means::{any_row, form_row, two_row};
@@ -20,13 +20,7 @@ pub(crate) fn is_inside(position: i32, n: usize, limit: usize) -> bool
 }
 
 /// A row of a block from line y on: of 8 or 16 samples, or of any number.
-fn form_line<const EIGHTS: bool>(
-    view: View<'_>,
-    x: usize,
-    y: usize,
-    to: Neighbour,
-    out: &mut [u8],
-)
+fn form_line<const EIGHTS: bool>(view: View<'_>, x: usize, y: usize, to: Neighbour, out: &mut [u8])
     requires { LiesIn view to x y (length out.old) 1 × (EIGHTS ≡ true → Eights (length out.old)) × (length out.old ≤ 16) }
     ensures { out.new ≡ tabulate (length out.old) (cell_at view.entry to (pos x) (pos y)) }
 {
@@ -58,30 +52,28 @@ fn form_lines<const EIGHTS: bool>(
     }
 }
 
-/// Eight rows of eight, of two samples each: one of a row of the plane, the other `dx` columns to the right in the row that starts `gap`
-/// places after it. The plane's rows are handed on as parts of its bytes, from `start` on, `stride` places apart. The number of rows is
-/// fixed, so that the loop is unrolled.
-fn two_square(
-    samples: &[u8],
-    width: usize,
-    start: usize,
-    gap: usize,
-    stride: usize,
-    x: usize,
-    dx: usize,
-    out: &mut [u8],
-)
-    requires { (start + 7 * stride + gap + width ≤ length samples.now) × (stride ≤ 32768) × (x + dx + 8 ≤ width) × (length out.old ≡ 64) }
-    ensures { out.new ≡ tabulate 64 (λ (k : ℕ). two_of samples.now samples.now (start + k / 8 * stride + x) (gap + dx) (k % 8)) }
+/// A block of 8 × 8, of two samples each. The number of rows is fixed, so that the loop is unrolled. A row's start is one stride after the
+/// last one's: by `View::row`, which multiplies for each row, a block takes 21 to 44 instructions more.
+fn two_square(view: View<'_>, x: usize, y: usize, to: Neighbour, out: &mut [u8])
+    requires { LiesIn view to x y 8 8 × (to.right + to.below ≤ 1) × (length out.old ≡ 64) }
+    ensures { out.new ≡ block_at view.entry to (pos x) (pos y) 8 8 }
 {
-    let mut a = start;
+    let stride = view.step * view.width;
+    let gap = to.below * stride;
+    let mut a = view.start(y);
     for r in 0..8 {
         let b = a + gap;
-        let e = a + width;
-        let f = b + width;
+        let e = a + view.width;
+        let f = b + view.width;
         let o = r * 8;
         let p = o + 8;
-        two_row::<8>(&samples[a..e], &samples[b..f], x, dx, &mut out[o..p]);
+        two_row::<8>(
+            &view.samples[a..e],
+            &view.samples[b..f],
+            x,
+            to.right,
+            &mut out[o..p],
+        );
         a += stride;
     }
 }
@@ -91,22 +83,12 @@ fn form_square(view: View<'_>, x: usize, y: usize, to: Neighbour, out: &mut [u8]
     requires { LiesIn view to x y 8 8 × (to.right + to.below ≤ 1) × (length out.old ≡ 64) }
     ensures { out.new ≡ block_at view.entry to (pos x) (pos y) 8 8 }
 {
-    let start = view.start(y);
-    let stride = view.step * view.width;
     if to.right + to.below == 0 {
-        two_square(view.samples, view.width, start, 0, stride, x, 0, out);
+        let none = Neighbour { right: 0, below: 0 };
+        two_square(view, x, y, none, out);
         return;
     }
-    two_square(
-        view.samples,
-        view.width,
-        start,
-        to.below * stride,
-        stride,
-        x,
-        to.right,
-        out,
-    );
+    two_square(view, x, y, to, out);
 }
 
 /// A block of 8 or 16 columns.

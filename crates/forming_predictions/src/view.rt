@@ -1,6 +1,6 @@
 //! Views of a plane's rows as lines, and what is read in them.
 
-ghost use Rattle.std.specs.Prelude.{◌≡◌, ℕ, ◌≤◌, ◌<◌, ℤ, pos, ◌+ℤ◌};
+ghost use Rattle.std.specs.Prelude.{◌≡◌, ◌≤◌, ◌<◌, ℤ, pos, ◌+ℤ◌};
 ghost use Rattle.forming_predictions.specs.Lines.{clamp_to};
 ghost use Rattle.forming_predictions.specs.inner.Views.{ViewFits, SidesFit, Steps};
 
