@@ -33,7 +33,8 @@ fn form_line<const EIGHTS: bool>(view: View<'_>, x: usize, y: usize, to: Neighbo
     any_row(row, below, x, to.right, out);
 }
 
-/// A block of 8 or 16 columns, or of any number.
+/// A block of 8 or 16 columns, or of any number. This loop over rows and those of `fetch_lines` and `form_clamped` have three lines each: a
+/// trait or a closure for what forms a row would take more.
 fn form_lines<const EIGHTS: bool>(
     view: View<'_>,
     x: usize,

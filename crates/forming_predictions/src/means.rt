@@ -1,4 +1,5 @@
-//! Rows of predicted samples, out of two rows of samples.
+//! Rows of predicted samples, out of two rows of samples. The two rows, the column and the step to the right stay four parameters: a
+//! struct of them would know that the rows are of one length, and each function would still ask for the columns that it reads.
 
 ghost use Rattle.std.specs.Prelude.{◌≡◌, ℕ, ◌+◌, ◌≤◌, length, get_or};
 ghost use Rattle.laws.specs.Tabulate.{tabulate};
