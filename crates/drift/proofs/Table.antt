@@ -4,7 +4,7 @@ use mathlib.Core.Path.{◌≡◌, refl}
 use mathlib.Core.Bool.{Bool, true, false, not}
 use Rattle.std.specs.Prelude.{Option, Some, None}
 use Rattle.std.specs.Option.{option_map}
-use Prim.Native.Nat.{ℕ, zero, suc, ◌*◌, ◌%◌, ◌≤◌}
+use Prim.Native.Nat.{ℕ, ◌*◌, ◌%◌, ◌≤◌}
 use native.Mathlib.Omega.{arith}
 use borrow.Author.Tests.{le-leb, eq-eqb, ne_eqb}
 use lib.Dec.{eqb}
@@ -22,7 +22,6 @@ use Rattle.inter_reconstruction.specs.declared.motion.Uses.{Uses}
 use Rattle.inter_reconstruction.specs.declared.motion.Uses.TheVariants.{Forward, Backward, Both}
 use Rattle.inter_reconstruction.specs.declared.macroblock.PredictionRefusal.{PredictionRefusal}
 use Rattle.inter_reconstruction.specs.declared.macroblock.PredictionRefusal.TheVariants.{ForwardMissing, BackwardMissing}
-use Rattle.inter_reconstruction.specs.declared.placing.PlacingRefusal.{PlacingRefusal}
 use Rattle.inter_reconstruction.specs.declared.placing.PlacingRefusal.TheVariants.{IllFormed}
 use Rattle.drift.specs.Steps.{Step, step_uses, fitting_plane, fitting, reference}
 use Rattle.drift.specs.Unrounded.{fitting_lengths, table_refusal}

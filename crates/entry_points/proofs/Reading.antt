@@ -2,7 +2,7 @@
 -- Assumes nothing.
 use mathlib.Core.Path.{◌≡◌, refl}
 use mathlib.Core.Bool.{Bool, true, false}
-use Rattle.std.specs.Prelude.{Option, Some, None, Result, Ok, Err, is_some, is_ok, ok_or, unwrap_or}
+use Rattle.std.specs.Prelude.{Option, Some, None, Result, Ok, is_some, is_ok, ok_or, unwrap_or}
 use Rattle.std.specs.Result.{result_unwrap_or}
 use Rattle.pmv.specs.Kinds.{no_meaning}
 use Rattle.pmv.specs.declared.kinds.NoMeaning.{NoMeaning}

@@ -4,15 +4,14 @@ use mathlib.Core.Path.{◌≡◌, refl, sym, ap, ◌∙◌}
 use mathlib.Core.Bool.{Bool, true, false, not, ◌||◌}
 use mathlib.Core.List.{List}
 use Prim.Native.Nat.{ℕ}
-use native.Mathlib.Omega.{arith}
 use lib.Dec.{eqb}
-use Rattle.std.specs.Prelude.{Option, Some, None, Result, Ok, Err, is_some}
+use Rattle.std.specs.Prelude.{Option, Some, None, Result, Ok, is_some}
 use Rattle.std.specs.Result.{result_err}
 use Rattle.combine_predictions.specs.Refusals.{cause, or_else, answered, unless_refused}
 use Rattle.combine_predictions.proofs.Answers.{refusal_of}
 use Rattle.inter_reconstruction.specs.Components.{ColourComponent, macroblock_bytes}
 use Rattle.inter_reconstruction.specs.Motion.{remaining, BackwardAlone}
-use Rattle.inter_reconstruction.specs.Refusals.{prediction_number, too_far, cell_refusal, same_geometry, planes_fit, geometry_refusal, planes_refusal, references_refusal, prediction_refusal}
+use Rattle.inter_reconstruction.specs.Refusals.{too_far, cell_refusal, same_geometry, planes_fit, geometry_refusal, planes_refusal, references_refusal, prediction_refusal}
 use Rattle.inter_reconstruction.specs.Answers.{accepted, directions_of, prediction_directions}
 use Rattle.inter_reconstruction.specs.declared.frames.FrameGeometry.{FrameGeometry}
 use Rattle.inter_reconstruction.specs.declared.frames.FrameBuffer.{FrameBuffer}

@@ -3,14 +3,13 @@
 use mathlib.Core.Path.{◌≡◌, refl, sym, ◌∙◌, fun_ext}
 use mathlib.Core.Bool.{Bool, true, not, ◌&&◌}
 use mathlib.Core.List.{List}
-use Prim.Native.Nat.{ℕ, zero, suc, ◌+◌, ◌-◌, ◌*◌, ◌/◌, ◌%◌, ◌≤◌, ◌<◌}
+use Prim.Native.Nat.{ℕ, ◌+◌, ◌-◌, ◌*◌, ◌/◌, ◌%◌, ◌≤◌, ◌<◌}
 use native.Mathlib.Nat.{mul-le-mul, mul-le-mul_right, mul_comm, suc-mul}
 use native.Mathlib.Omega.{arith}
 use lib.Dec.{eqb, ltb}
 use lib.ListN.{length, take, drop}
 use borrow.Author.Tests.{eqb-true, ltb-true, leb-true}
 use Rattle.laws.proofs.Tests.{both}
-use Rattle.combine_predictions.specs.Refusals.{unless_refused}
 use Rattle.forming_predictions.specs.Refusals.{plane_fits, side_fits}
 use Rattle.forming_predictions.proofs.Refusals.{PlaneRight, plane_right}
 use Rattle.pmv.specs.declared.kinds.ChromaFormat.{ChromaFormat}

@@ -1,5 +1,5 @@
 -- After r turns the first r rows of the frame are in place.
-use Rattle.std.proofs.Common.{◌+◌, ◌-◌}
+use Rattle.std.proofs.Common.{◌+◌}
 use Rattle.laws.proofs.Rows.{RowsFilled}
 use Rattle.inter_reconstruction.specs.inner.Blocks.{interleaved_cell}
 use Rattle.inter_reconstruction.proofs.macroblock.interleave.Given as goal

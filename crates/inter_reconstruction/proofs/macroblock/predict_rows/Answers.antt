@@ -2,7 +2,7 @@
 -- Assumes nothing.
 use Rattle.std.proofs.Common.{rules, arith, ◌∙◌, length, FitsSigned, w32}
 use Rattle.std.proofs.lemmas.Int.{to_z_pos, to_z-of_z}
-use Rattle.inter_reconstruction.proofs.Rectangles.{block_accepted, block_is_ok, block_written, rows_are}
+use Rattle.inter_reconstruction.proofs.Rectangles.{block_accepted, block_written, rows_are}
 use Rattle.inter_reconstruction.proofs.macroblock.predict_rows.Goals as goal
 
 pub returns : goal.returns

@@ -1,6 +1,6 @@
 -- Formats are the same where their numbers are.
 -- Assumes nothing.
-use Rattle.std.proofs.Common.{◌≡◌, refl, eqb, ◌∙◌}
+use Rattle.std.proofs.Common.{◌≡◌, refl, eqb}
 use denote.Enum.Bare.{sameb}
 use Rattle.pmv.specs.contracts.kinds.ChromaFormat.{the_type}
 use Rattle.pmv.specs.Kinds.{chroma_number}

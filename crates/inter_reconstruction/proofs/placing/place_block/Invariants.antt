@@ -1,6 +1,6 @@
 -- After r turns the first r rows of the block are in their places.
 -- Assumes nothing.
-use Rattle.std.proofs.Common.{◌-◌, ◌≤◌}
+use Rattle.std.proofs.Common.{◌≤◌}
 use Rattle.inter_reconstruction.proofs.Stored.{RowsPlaced}
 use Rattle.inter_reconstruction.proofs.placing.place_block.Given as goal
 

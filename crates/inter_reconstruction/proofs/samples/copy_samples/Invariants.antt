@@ -1,6 +1,6 @@
 -- After k turns the output has the first k samples at its front.
 -- Assumes nothing.
-use Rattle.std.proofs.Common.{ℕ, length, get_or, ◌-◌}
+use Rattle.std.proofs.Common.{ℕ, get_or}
 use Rattle.laws.proofs.Filled.{Filled}
 use Rattle.inter_reconstruction.proofs.samples.copy_samples.Given as goal
 
