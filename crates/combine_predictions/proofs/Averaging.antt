@@ -19,9 +19,9 @@ pub mean2_byte : (a b : ℕ) → a < 256 → b < 256 → mean2 a b < 256
 mean2_byte a b h k = omega arith
 
 -- no refusal has number 0, which is acceptance's
-pub never_0 : (r : AveragingRefusal) → averaging_number r ≡ 0 → ⊥
-never_0 WrongLength e = omega arith
-never_0 LengthsDiffer e = omega arith
+pub never_refused_0 : (r : AveragingRefusal) → averaging_number r ≡ 0 → ⊥
+never_refused_0 WrongLength e = omega arith
+never_refused_0 LengthsDiffer e = omega arith
 
 -- inputs of f and b bytes and an output of o: when each number is given
 module _ (f b o : ℕ) where

@@ -3,4 +3,3 @@ pub mod Words
 pub mod ReadBack
 pub mod Updates
 pub mod Reading
-pub mod Predictions

@@ -18,7 +18,12 @@ use Rattle.std.specs.Prelude.{Option, Some, None}
 use Rattle.combine_predictions.specs.Refusals.{cause, or_else}
 use Rattle.forming_predictions.specs.declared.FormingRefusal.TheVariants.{OutsideDomain, WrongLength}
 use Rattle.forming_predictions.specs.inner.Views.{SidesFit}
-use Rattle.forming_predictions.specs.Refusals.{plane_fits, position_fits, block_side_fits, last_sample, last_block, plane_refusal, position_refusal, sample_refusal, block_refusal}
+use Rattle.forming_predictions.specs.Refusals.{forming_number, plane_fits, position_fits, block_side_fits, last_sample, last_block, plane_refusal, position_refusal, sample_refusal, block_refusal}
+
+-- no refusal has number 0, which is acceptance's
+pub never_refused_0 : (r : FormingRefusal) → forming_number r ≡ 0 → ⊥
+never_refused_0 OutsideDomain e = omega arith
+never_refused_0 WrongLength e = omega arith
 
 -- ---- chains: what it says that nothing is refused
 pub none_first : {R : Type 0} (m n : Option R) → or_else m n ≡ None → m ≡ None

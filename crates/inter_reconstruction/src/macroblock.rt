@@ -66,6 +66,9 @@ impl From<PredictionRefusal> for u32 {
 
 // ---- one component: the block of one direction, or the mean of two. Nothing here knows which component it is
 
+// The calls below refuse nothing of what they are given here, and their answers are let go: with an `unwrap`, which asks for nothing when it
+// runs, a field's block took 14 instructions more.
+
 /// A block of the frame's rows.
 fn predict_rows(
     plane: ReferencePlane,
@@ -761,7 +764,7 @@ fn check_destination(
 }
 
 /// The directions that are used, with their references: what `prediction_refusal` has after the destination.
-#[inline(always)]
+#[inline(always)] // into each kind's call, which knows the kind: a macroblock of one direction takes 115 to 145 instructions less
 fn predict_used(
     dest: FrameGeometry,
     used: Uses,
