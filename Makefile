@@ -270,11 +270,12 @@ forms-check:
 # computed; and the split with the division of must-fail/divided_split.edit in it
 SPLIT = split_vector split_component
 SPLIT_SOURCE = crates/forming_predictions/src/lib.rt
+MEANS_SOURCE = crates/forming_predictions/src/means.rt
 UNDIVIDED = awk -f docs/undivided.awk
 split-check:
 	@mkdir -p build
 	@$(UNDIVIDED) -v of='$(SPLIT)' $(SPLIT_SOURCE)
-	@! $(UNDIVIDED) -v of=avg4 $(SPLIT_SOURCE) >build/divided.txt
+	@! $(UNDIVIDED) -v of=avg4 $(MEANS_SOURCE) >build/divided.txt
 	@grep -q 'avg4 has a division' build/divided.txt
 	@sed 's/^    vector >> 1$$/    vector >> one/' $(SPLIT_SOURCE) >build/named.src
 	@! $(UNDIVIDED) -v of='$(SPLIT)' build/named.src >build/divided.txt
