@@ -266,7 +266,7 @@ use Rattle.forming_predictions.specs.declared.FormingRefusal.TheVariants as Form
         if int(c[4]) * int(c[5]) > 64:
             value = "[]"
         after = f"unless_refused ({call}) ({value}) (filled {c[8]} {c[9]})"
-        m.case(f"answered ({call}) tt ≡ {said('FormingRefusal', c[10], 'tt')}", f"{after} ≡ {lst(hexed(c[11]))}")
+        m.case(f"answered {{A = Unit {{0}}}} ({call}) tt ≡ {said('FormingRefusal', c[10], 'tt')}", f"{after} ≡ {lst(hexed(c[11]))}")
     limits = lambda x: (x[1][10],) + tuple(x[1][2:6]) + (int(x[1][9]) - int(x[1][4]) * int(x[1][5]),) + (x[2][0], x[2][1], len(x[2][2]))
     for x in selection(kind("9"), lambda x: limits(x) if x[0] in "klmnopq" else None, 1, 160):
         group, c, (w, h, s) = x
@@ -656,7 +656,7 @@ use Rattle.inter_reconstruction.specs.declared.placing.PlacingRefusal.TheVariant
             m.case(f"placed {picture(c)} {c.col} {c.row} (bytes {c.bytes}) (grey {counts}) {name} ≡ {lst(plane)}")
     for c in placing.refusals():
         refusal = f"(placing_refusal {picture(c)} (lengths {' '.join(map(str, c.counts))}) {c.bytes} {c.col} {c.row})"
-        m.case(f"answered {refusal} tt ≡ {said('PlacingRefusal', c.number, 'tt')}", f"refusal_number placing_number {refusal} ≡ {c.number}")
+        m.case(f"answered {{A = Unit {{0}}}} {refusal} tt ≡ {said('PlacingRefusal', c.number, 'tt')}", f"refusal_number placing_number {refusal} ≡ {c.number}")
     return m
 
 
