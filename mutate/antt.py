@@ -15,11 +15,10 @@ OPERATORS = {
 }  # fmt: skip
 NAMES = {
     "ltb": "leb", "leb": "ltb", "lt_z": "le_z", "le_z": "lt_z", "eqb": "leb", "true": "false", "false": "true", "take": "drop", "drop": "take",
-    "floor_half": "trunc_half", "trunc_half": "floor_half", "mean2": "mean4", "pos": "negsuc", "negsuc": "pos", "none": "some 0",
+    "floor_half": "trunc_half", "trunc_half": "floor_half", "mean2": "mean4", "pos": "negsuc", "negsuc": "pos",
     "chroma_horizontal": "chroma_vertical", "chroma_vertical": "chroma_horizontal", "chroma_columns": "chroma_lines", "chroma_lines": "chroma_columns",
     "columns_of": "lines_of", "lines_of": "columns_of", "block_width": "block_height", "block_height": "block_width", "luma": "cb", "cb": "cr", "cr": "cb",
-    "row_at": "column_at", "column_at": "row_at", "first_column": "first_row", "first_row": "first_column", "forward_missing": "backward_missing",
-    "backward_missing": "forward_missing", "horizontal_refusal": "vertical_refusal", "vertical_refusal": "horizontal_refusal",
+    "row_at": "column_at", "column_at": "row_at", "first_column": "first_row", "first_row": "first_column", "horizontal_refusal": "vertical_refusal", "vertical_refusal": "horizontal_refusal",
     "raised": "lowered", "lowered": "raised", "frame": "field Top",
 }  # fmt: skip
 # fields that are mistaken for each other
@@ -31,13 +30,18 @@ FIELDS = {
 }  # fmt: skip
 FIELDS.update({v: k for k, v in list(FIELDS.items()) if v not in FIELDS})
 
+# what the library has and the logic does not: flat.py declares it in the crate of definitions
+OWN = "Rattle.definitions.specs"
 # where the logic has the names of the library's prelude and of its facades; a mutant may need one that its file does not use
 LOGIC = {
     "mathlib.Core.Path": ["◌≡◌", "refl"], "mathlib.Core.Bool": ["Bool", "true", "false", "cond", "not", "◌&&◌", "◌||◌"],
-    "mathlib.Core.List": ["List", "[]", "◌∷◌", "◌++◌", "map"], "mathlib.Core.Option": ["Option", "none", "some", "none as None", "some as Some"],
+    "mathlib.Core.List": ["List", "[]", "◌∷◌", "◌++◌", "map"],
     "Prim.Native.Nat": ["ℕ", "zero", "suc", "◌+◌", "◌-◌", "◌*◌", "◌/◌", "◌%◌", "◌^◌", "◌≤◌", "◌<◌", "min"],
     "lib.Dec": ["eqb", "ltb", "leb"], "lib.ListN": ["length", "get_or", "take", "drop", "set", "replicate"],
     "lib.IntN": ["ℤ", "pos", "negsuc", "◌+ℤ◌", "◌-ℤ◌", "◌*ℤ◌", "neg_ℤ", "nat_abs"], "lib.Signed": ["lt_z", "le_z"], "denote.Ref": ["Bor"],
+    f"{OWN}.declared.prelude.Option": ["Option"], f"{OWN}.declared.prelude.Option.TheVariants": ["None", "Some"],
+    f"{OWN}.declared.prelude.Result": ["Result"], f"{OWN}.declared.prelude.Result.TheVariants": ["Ok", "Err"],
+    f"{OWN}.prelude": ["is_some", "unwrap_or", "option_map", "result_err"],
 }  # fmt: skip
 
 
@@ -101,9 +105,24 @@ def definitions_of(text):
     return found
 
 
+def imported(text, enums):
+    """for each constructor that a file uses the variants of its enum, and the module that has them; of a prefix, under its name and a point"""
+    found = {}
+    for module, enum, names in re.findall(r"^use (Rattle\.\S*declared\.(?:\w+\.)*(\w+)\.TheVariants)(?:\.\{([^}]*)\}| as \w+)$", text, re.M):
+        for name in names.split(",") if names else []:
+            found[name.strip()] = enums.get(enum, []), module
+    for enum, prefix in re.findall(r"^use Rattle\.\S*declared\.(?:\w+\.)*(\w+)\.TheVariants as (\w+)$", text, re.M):
+        found[prefix + "."] = enums.get(enum, []), ""
+    for enum, name in re.findall(r"^use Rattle\.\S*declared\.(?:\w+\.)*(\w+)\.\{(\w+)\}$", text, re.M):
+        if enum == name:
+            found.setdefault(name + ".", (enums.get(enum, []), ""))
+    return found
+
+
 class Mutants:
-    def __init__(self, text, types, constructors, constants):
-        self.text, self.types, self.constructors, self.constants = text, types, constructors, constants
+    def __init__(self, text, types, data, enums, constants):
+        self.text, self.types, self.data, self.constants = text, types, data, constants
+        self.imported = imported(text, enums)
         self.edits, self.counts = [], {}
 
     def all(self):
@@ -150,6 +169,12 @@ class Mutants:
                 self.add(at, after, "." + FIELDS[word[1:]], "operand")
             elif word == "not":
                 self.add(at, after, "", "operator")
+            elif word == "Some":
+                self.add(at, self.argument_end(tokens, i + 1), "None", "constructor")
+            elif word == "None":
+                for name, kind in variables.items():
+                    if definition.types[-1] in (f"Option {kind}", f"Option ({kind})"):
+                        self.add(at, after, f"Some {name}" if start == at - 1 and after == end else f"(Some {name})", "constructor")
             elif word in self.constants and len(self.constants) > 1:
                 self.add(at, after, self.constants[(self.constants.index(word) + 1) % len(self.constants)], "operand")
             elif word == "eqb" and self.second_argument(tokens, i) == "0":
@@ -160,6 +185,16 @@ class Mutants:
                 self.constructor(word, at, after)
             if word in self.types or word == "cond":
                 self.exchange(word, tokens, i, variables)
+
+    def argument_end(self, tokens, i):
+        """where the argument that begins with token i ends in the text"""
+        depth = 0
+        while True:
+            depth += tokens[i][1] in "({"
+            depth -= tokens[i][1] in ")}"
+            at, i = tokens[i][2] + len(tokens[i][1]), i + 1
+            if depth == 0 and not (i < len(tokens) and tokens[i][2] == at and tokens[i][1].startswith(".")):
+                return at
 
     def second_argument(self, tokens, i):
         k, depth = i + 1, 0
@@ -192,7 +227,8 @@ class Mutants:
         prefix, dot, name = word.rpartition(".")
         if dot and not prefix:
             return
-        for variants in self.constructors:
+        known = self.imported.get(prefix + dot if dot else name)
+        for variants in [known[0]] if known else self.data:
             held = dict(variants).get(name)
             if held is None:
                 continue
@@ -248,6 +284,8 @@ def brought(text, edit):
         "chroma_vertical": "Rattle.pmv.specs.Chroma", "columns_of": "Rattle.inter_reconstruction.specs.Components",
         "lines_of": "Rattle.inter_reconstruction.specs.Components", "block_height": "Rattle.inter_reconstruction.specs.Components",
         "Top": "Rattle.forming_predictions.specs.declared.FieldParity.TheVariants",
+        # the constructors that stand beside those which the file uses
+        **{name: module for variants, module in imported(text, ENUMS).values() if module for name, _ in variants},
     }  # fmt: skip
     for name, module in others.items():
         if name in wanted and name not in used and not re.search(rf"(abbrev|unfoldable) pub {name} ", text):
@@ -256,8 +294,13 @@ def brought(text, edit):
     return "\n".join(lines + [changed]) if lines else changed
 
 
+# the variants of the code's enums, as `mutants_of` was given them
+ENUMS = {}
+
+
 def mutants_of(files, enums):
     """for each file its mutants; `files` has the text of every file of definitions, `enums` the variants of the code's enums"""
+    ENUMS.update(enums)
     types, per_file = {}, {}
     for path, text in files.items():
         for d in definitions_of(text):
@@ -269,13 +312,12 @@ def mutants_of(files, enums):
             for line in m.group(1).split("\n"):
                 if " : " in line and not line.strip().startswith("--"):
                     names, kind = line.strip().split(" : ", 1)
-                    variants += [(n, "→" in kind) for n in names.split()]
+                    variants += [(n, kind.count("→")) for n in names.split()]
             data.append(variants)
-    constructors = list(enums.values()) + data
     # numbers that have a name
     for path, text in files.items():
         constants = [d.name for d in definitions_of(text) if d.types == ["ℕ"]]
         seen = set(re.findall(r"[\w]+", text))
         known = [d.name for t in files.values() for d in definitions_of(t) if d.types == ["ℕ"] and d.name in seen]
-        per_file[path] = Mutants(text, types, constructors, known or constants).all()
+        per_file[path] = Mutants(text, types, data, enums, known or constants).all()
     return per_file

@@ -57,6 +57,35 @@ def flag(v):
     return "true" if int(v) else "false"
 
 
+# the reasons by their numbers, each under the name of its enum
+REASONS = {
+    "AveragingRefusal": {18: "WrongLength", 19: "LengthsDiffer"},
+    "FormingRefusal": {14: "OutsideDomain", 18: "WrongLength"},
+    "VectorRefusal": {1: "FCodeOutside", 2: "CodeOutside", 3: "ResidualForbidden", 4: "ResidualMissing", 5: "DeltaOutside", 6: "VectorOutside"},
+    "UpdateRefusal": {
+        7: "IntraWithMotion", 8: "TypeMissing", 9: "FrameBasedInField", 10: "SixteenByEightInFrame", 11: "DualPrimeFlags", 12: "NoneRowFlags",
+    },
+    "PredictionRefusal": {
+        13: "CellTooFar", 14: "OutsideDomain", 15: "OtherGeometry", 16: "ForwardMissing", 17: "BackwardMissing", 18: "WrongLength",
+    },
+    "PlacingRefusal": {14: "OutsideDomain", 18: "WrongLength", 20: "IllFormed"},
+}  # fmt: skip
+
+
+def reason(enum, number):
+    return f"{enum}.{REASONS[enum][int(number)]}"
+
+
+def said(enum, number, value):
+    """what a call answers: its value, or where the number is not 0 that reason"""
+    return f"Err {reason(enum, number)}" if int(number) else f"Ok {value}"
+
+
+def optional(number, value):
+    """the value of an answer, if it has one"""
+    return "None" if int(number) else f"Some {value}"
+
+
 def hexed(text):
     return [] if text == "-" else list(bytes.fromhex(text))
 
@@ -94,11 +123,12 @@ class Module:
 COMMON = """use mathlib.Core.Path.{◌≡◌, refl}
 use mathlib.Core.Bool.{Bool, true, false, cond}
 use mathlib.Core.List.{List, [], ◌∷◌, ◌++◌}
-use mathlib.Core.Option.{Option, none, some}
+use Rattle.std.specs.Prelude.{Option, None, Some, Result, Ok, Err}
 use Prim.Native.Nat.{ℕ, zero, suc, ◌+◌, ◌-◌, ◌*◌, ◌/◌, ◌%◌, ◌^◌}
 use lib.IntN.{ℤ, pos, negsuc}
 use lib.ListN.{length, get_or, replicate}
 use Rattle.laws.specs.Tabulate.{tabulate}
+use Rattle.combine_predictions.specs.Refusals.{answered, value_unless, unless_refused, refusal_number}
 """
 
 FILLED = """-- what a buffer of n bytes holds before a call
@@ -113,10 +143,10 @@ def averaging(repository):
     m = Module(
         """
 use Rattle.std.specs.Borrow.{Bor}
-use Rattle.combine_predictions.specs.Refusals.{unless_refused}
-use Rattle.combine_predictions.specs.Averaging.{averaged, average_answer, number_of}
+use Rattle.combine_predictions.specs.Refusals.{averaging_number}
+use Rattle.combine_predictions.specs.Averaging.{averaged, average_refusal, average_answer}
 use Rattle.combine_predictions.specs.Choosing.{chosen}
-use Rattle.combine_predictions.specs.declared.Averaged.TheVariants.{Done, Refused}
+use Rattle.combine_predictions.specs.declared.AveragingRefusal.TheVariants as AveragingRefusal
 use Rattle.combine_predictions.specs.declared.PredictionDirection.TheVariants.{Forward, Backward, Skipped}
 """,
         "tabulate",
@@ -125,10 +155,13 @@ use Rattle.combine_predictions.specs.declared.PredictionDirection.TheVariants.{F
     cases = read_list(repository, "combine_predictions")
     for group, c in selection([x for x in cases if x[1][0] == "1"], lambda x: (x[0], x[1][5], len(x[1][1]) < 60), 4, 40):
         forward, backward, answer = hexed(c[1]), hexed(c[2]), int(c[5])
-        said = f"Refused {answer}" if answer else "Done"
-        call = f"average_answer {len(forward)} {len(backward)} {c[4]}"
-        after = f"unless_refused (number_of ({call})) (averaged {lst(forward)} {lst(backward)}) (filled {c[3]} {c[4]})"
-        m.case(f"{call} ≡ {said}", f"{after} ≡ {lst(hexed(c[6]))}")
+        lengths = f"{len(forward)} {len(backward)} {c[4]}"
+        after = f"unless_refused (average_refusal {lengths}) (averaged {lst(forward)} {lst(backward)}) (filled {c[3]} {c[4]})"
+        m.case(
+            f"average_answer {lengths} ≡ {said('AveragingRefusal', answer, 'tt')}",
+            f"refusal_number averaging_number (average_refusal {lengths}) ≡ {answer}",
+            f"{after} ≡ {lst(hexed(c[6]))}",
+        )
     directions = {"0": "Forward", "1": "Backward", "3": "Skipped"}
     for group, c in selection([x for x in cases if x[1][0] == "2" and x[1][2] != x[1][3]], lambda x: x[1][1], 1, 9):
         side = "f" if c[4] == c[2] else "b"
@@ -150,19 +183,15 @@ def side(v, n):
 def forming(repository):
     m = Module(
         """
-use Rattle.combine_predictions.specs.Refusals.{unless_refused}
 use Rattle.forming_predictions.specs.Splitting.{floor_half, half_flag, IsSplit, horizontal_half, vertical_half}
 use Rattle.forming_predictions.specs.Lines.{frame, field, field_lines, clamp_to, row_of, sample_at}
 use Rattle.forming_predictions.specs.Means.{rounded}
 use Rattle.forming_predictions.specs.Forming.{combined, formed, block_of, predicted_block}
-use Rattle.forming_predictions.specs.Refusals.{plane_fits, position_fits, block_side_fits, plane_refusal, sample_refusal, block_refusal}
-use Rattle.forming_predictions.specs.SampleAnswers.{sample_number, sample_value, value_unless, sample_answer}
-use Rattle.forming_predictions.specs.BlockAnswers.{block_number, block_answer}
+use Rattle.forming_predictions.specs.Refusals.{forming_number, plane_fits, position_fits, block_side_fits, plane_refusal, sample_refusal, block_refusal}
 use Rattle.forming_predictions.specs.declared.ComponentSplit.{ComponentSplit}
 use Rattle.forming_predictions.specs.declared.FieldParity.TheVariants.{Top, Bottom}
 use Rattle.forming_predictions.specs.declared.HalfPattern.TheVariants.{Integer, HalfHorizontal, HalfVertical, HalfBoth}
-use Rattle.forming_predictions.specs.declared.Sampled.TheVariants.{Sample, Refused}
-use Rattle.forming_predictions.specs.declared.Predicted.TheVariants as Block
+use Rattle.forming_predictions.specs.declared.FormingRefusal.TheVariants as FormingRefusal
 """,
         "tabulate floor_half half_flag field_lines clamp_to row_of sample_at combined formed block_of plane_fits position_fits block_side_fits "
         "sample_refusal block_refusal",
@@ -201,9 +230,6 @@ use Rattle.forming_predictions.specs.declared.Predicted.TheVariants as Block
             m.define(f"abbrev {planes[key]} : List ℕ\n{planes[key]} = {lst(samples)}")
         return planes[key]
 
-    def answered(number, value):
-        return f"Refused {number}" if number else f"Sample {value}"
-
     def shape(x):
         group, c, (w, h, s) = x
         lines = h if c[1] == "2" else (h + 1) // 2 if c[1] == "0" else h // 2
@@ -212,43 +238,39 @@ use Rattle.forming_predictions.specs.declared.Predicted.TheVariants as Block
     few = lambda x: len(x[2][2]) <= 600
     for x in selection([x for x in kind("7") if few(x)], lambda x: shape(x) + (x[1][4],), 1, 70):
         group, c, (w, h, s) = x
-        call = f"sample_answer (plane_refusal {w} {h} {len(s)}) (sample_at {LINES[c[1]]} {w} {h} {named(x[2])} {z(c[2])} {z(c[3])})"
-        said = answered(int(c[4]), c[5])
-        m.case(f"{call} ≡ {said}", f"sample_number ({said}) ≡ {c[4]}", f"sample_value ({said}) ≡ value_unless {{A = ℕ}} {c[4]} {c[5]}")
-    m.case(
-        "value_unless {A = ℕ} 0 7 ≡ some 7",
-        "value_unless {A = ℕ} 14 7 ≡ none",
-        "sample_value (Sample 7) ≡ some 7",
-        "sample_value (Refused 14) ≡ none",
-    )
+        refusal, value = f"(plane_refusal {w} {h} {len(s)})", f"(sample_at {LINES[c[1]]} {w} {h} {named(x[2])} {z(c[2])} {z(c[3])})"
+        m.case(
+            f"answered {refusal} {value} ≡ {said('FormingRefusal', c[4], c[5])}",
+            f"refusal_number forming_number {refusal} ≡ {c[4]}",
+            f"value_unless {refusal} {value} ≡ {optional(c[4], c[5])}",
+        )
     halves = lambda c: (int(c[4]) % 2, int(c[5]) % 2)
     for x in selection([x for x in kind("8") if few(x)], lambda x: (x[1][1], x[1][6], halves(x[1]), x[0], int(x[1][4]) < 0), 1, 90):
         group, c, (w, h, s) = x
         value = f"formed rounded (sample_at {LINES[c[1]]} {w} {h} {named(x[2])}) {z(c[2])} {z(c[3])} {z(c[4])} {z(c[5])}"
-        call = f"sample_answer (sample_refusal {w} {h} {len(s)} {z(c[2])} {z(c[3])}) ({value})"
-        m.case(f"{call} ≡ {answered(int(c[6]), c[7])}")
+        call = f"answered (sample_refusal {w} {h} {len(s)} {z(c[2])} {z(c[3])}) ({value})"
+        m.case(f"{call} ≡ {said('FormingRefusal', c[6], c[7])}")
     numbers = lambda x: (len(x[2][2]), x[2][0], x[2][1], tuple(x[1][2:4]))
     for x in selection(kind("8"), lambda x: (x[1][6],) + numbers(x) if x[0] in "klmo" else None, 1, 90):
         group, c, (w, h, s) = x
-        m.case(f"sample_refusal {w} {h} {len(s)} {z(c[2])} {z(c[3])} ≡ {c[6]}")
+        m.case(f"refusal_number forming_number (sample_refusal {w} {h} {len(s)} {z(c[2])} {z(c[3])}) ≡ {c[6]}")
     for x in selection(kind("7"), lambda x: (x[2][0], x[2][1], len(x[2][2])) if x[0] in "kl" else None, 1, 60):
         group, c, (w, h, s) = x
-        m.case(f"plane_refusal {w} {h} {len(s)} ≡ {c[4]}")
+        m.case(f"refusal_number forming_number (plane_refusal {w} {h} {len(s)}) ≡ {c[4]}")
     block = lambda c: (int(c[6]) % 2, int(c[7]) % 2)
     small = lambda x: few(x) and int(x[1][9]) <= 40
     for x in selection([x for x in kind("9") if small(x)], lambda x: (x[1][1], x[1][10], block(x[1]), x[0]), 1, 60):
         group, c, (w, h, s) = x
         call = f"block_refusal {w} {h} {len(s)} {z(c[2])} {z(c[3])} {c[4]} {c[5]} {c[9]}"
-        said = f"Block.Refused {c[10]}" if int(c[10]) else "Block.Done"
         value = f"predicted_block rounded (sample_at {LINES[c[1]]} {w} {h} {named(x[2])}) {c[4]} {c[5]} {z(c[2])} {z(c[3])} {z(c[6])} {z(c[7])}"
         if int(c[4]) * int(c[5]) > 64:
             value = "[]"
-        after = f"unless_refused (block_number (block_answer ({call}))) ({value}) (filled {c[8]} {c[9]})"
-        m.case(f"block_answer ({call}) ≡ {said}", f"{after} ≡ {lst(hexed(c[11]))}")
+        after = f"unless_refused ({call}) ({value}) (filled {c[8]} {c[9]})"
+        m.case(f"answered {{A = Unit {{0}}}} ({call}) tt ≡ {said('FormingRefusal', c[10], 'tt')}", f"{after} ≡ {lst(hexed(c[11]))}")
     limits = lambda x: (x[1][10],) + tuple(x[1][2:6]) + (int(x[1][9]) - int(x[1][4]) * int(x[1][5]),) + (x[2][0], x[2][1], len(x[2][2]))
     for x in selection(kind("9"), lambda x: limits(x) if x[0] in "klmnopq" else None, 1, 160):
         group, c, (w, h, s) = x
-        m.case(f"block_refusal {w} {h} {len(s)} {z(c[2])} {z(c[3])} {c[4]} {c[5]} {c[9]} ≡ {c[10]}")
+        m.case(f"refusal_number forming_number (block_refusal {w} {h} {len(s)} {z(c[2])} {z(c[3])} {c[4]} {c[5]} {c[9]}) ≡ {c[10]}")
     return m
 
 
@@ -287,7 +309,7 @@ def kind_of(name, number):
 
 
 def residual(present, value):
-    return f"(Residual.Present {value})" if int(present) else "Residual.Absent"
+    return f"(Some {value})" if int(present) else "None"
 
 
 PMV_HEAD = """
@@ -298,23 +320,17 @@ use Rattle.pmv.specs.Chroma.{trunc_half, scaled}
 use Rattle.pmv.specs.Predictors.{predictor, stored, zeroed, pair_of, pair_stored, first_copied}
 use Rattle.pmv.specs.Vector.{ported, decoded, part, part_refusal, reconstructed_pair, vector_refusal, components, reconstructed}
 use Rattle.pmv.specs.Update.{decided_refusal, decided_outcome, update_refusal, update_outcome, outcome_number, updated, spatial_temporal_reset}
-use Rattle.pmv.specs.Answers.{delta_answer, delta_number, delta_value, range_answer, range_number, range_value, reconstructed_answer, reconstructed_number, reconstructed_value, vector_answer, vector_number, vector_value, update_number, update_value}
-use Rattle.pmv.specs.declared.component.MotionResidual.TheVariants as Residual
-use Rattle.pmv.specs.declared.component.ComputedDelta.TheVariants as D
-use Rattle.pmv.specs.declared.component.FoundRange.TheVariants as Found
+use Rattle.pmv.specs.Refusals.{vector_number, update_number}
+use Rattle.pmv.specs.declared.component.VectorRefusal.TheVariants as VectorRefusal
 use Rattle.pmv.specs.declared.component.VectorRange.{VectorRange}
 use Rattle.pmv.specs.declared.component.ReconstructedComponent.{ReconstructedComponent}
-use Rattle.pmv.specs.declared.component.Reconstructed.TheVariants as C
 use Rattle.pmv.specs.declared.vector.MotionVector.{MotionVector}
-use Rattle.pmv.specs.declared.vector.ReconstructedVector.TheVariants as Vec
 use Rattle.pmv.specs.declared.update.PmvUpdateContext.{PmvUpdateContext}
 use Rattle.pmv.specs.declared.update.PmvUpdateOutcome.TheVariants as Outcome
-use Rattle.pmv.specs.declared.update.Updated.TheVariants as U
+use Rattle.pmv.specs.declared.update.UpdateRefusal.TheVariants as UpdateRefusal
 use Rattle.pmv.specs.declared.predictors.Pmv.{Pmv}
-use Rattle.pmv.specs.declared.kinds.MotionType.TheVariants as Motion
-use Rattle.pmv.specs.declared.kinds.MotionType.{MotionType}
+use Rattle.pmv.specs.declared.kinds.PredictionType.{PredictionType}
 use Rattle.pmv.specs.declared.kinds.PictureStructure.{PictureStructure}
-use Rattle.pmv.specs.declared.component.MotionResidual.{MotionResidual}
 """ + "".join(f"use Rattle.pmv.specs.declared.kinds.{name}.TheVariants as {name}\n" for name in KINDS if name != "FieldParity")
 PMV_UNFOLDING = (
     "floor_half scale is_plain delta f_code_fits code_fits code_refusal delta_refusal range_of halves wrapped from_delta from_delta_refusal trunc_half "
@@ -329,10 +345,10 @@ range a b c = record { low = a; high = b; range = c }
 abbrev component : ℤ → ℤ → ℤ → ℤ → ReconstructedComponent
 component v p d r = record { vector_prime = v; new_pmv = p; delta = d; range = r }
 
-abbrev vector : ℤ → MotionResidual → ℤ → MotionResidual → MotionVector
+abbrev vector : ℤ → Option ℕ → ℤ → Option ℕ → MotionVector
 vector h rh v rv = record { motion_code_horiz = h; motion_residual_horiz = rh; motion_code_vert = v; motion_residual_vert = rv }
 
-abbrev context : PictureStructure → MotionType → Bool → Bool → Bool → Bool → PmvUpdateContext
+abbrev context : PictureStructure → Option PredictionType → Bool → Bool → Bool → Bool → PmvUpdateContext
 context p t f b i c = record { picture_structure = p; prediction_type = t; macroblock_motion_forward = f; macroblock_motion_backward = b; macroblock_intra = i; concealment_motion_vectors = c }"""
 
 
@@ -347,42 +363,31 @@ def pmv(repository):
     kind = lambda k: [(g, [int(v) for v in c]) for g, c in cases if c[0] == str(k)]
     for g, c in selection(kind(1), lambda x: (x[0], x[1][5], min(x[1][4], 11), (x[1][1] > 0) - (x[1][1] < 0)), 1, 120):
         _, code, there, value, f, answer, d = c
-        r = residual(there, value)
-        said = f"D.Refused {answer}" if answer else f"D.Delta {z(d)}"
-        call = f"delta_answer (delta_refusal {f} {z(code)} {r}) (delta_of {f} {z(code)} {r})"
-        m.case(f"{call} ≡ {said}", f"delta_number ({said}) ≡ {answer}", f"delta_value ({said}) ≡ {'none' if answer else 'some ' + z(d)}")
+        words = f"{f} {z(code)} {residual(there, value)}"
+        m.case(
+            f"answered (delta_refusal {words}) (delta_of {words}) ≡ {said('VectorRefusal', answer, z(d))}",
+            f"refusal_number vector_number (delta_refusal {words}) ≡ {answer}",
+        )
     for g, c in selection(kind(2), lambda x: min(x[1][1], 12), 1, 13):
         _, f, answer, low, high, span = c
         value = f"(range {z(low)} {z(high)} {z(span)})"
-        said = f"Found.Refused {answer}" if answer else f"Found.Range {value}"
-        m.case(
-            f"range_answer (f_code_refusal {f}) (range_of (scale {f})) ≡ {said}",
-            f"range_number ({said}) ≡ {answer}",
-            f"range_value ({said}) ≡ {'none' if answer else 'some ' + value}",
-        )
+        m.case(f"answered (f_code_refusal {f}) (range_of (scale {f})) ≡ {said('VectorRefusal', answer, value)}")
 
-    def component(answer, values):
-        value = "(component " + " ".join(z(v) for v in values) + ")"
-        return (f"C.Refused {answer}" if answer else f"C.Component {value}"), ("none" if answer else "some " + value), value
+    def component(values):
+        return "(component " + " ".join(z(v) for v in values) + ")"
 
     for g, c in selection(kind(3), lambda x: (x[0], x[1][9], tuple(x[1][6:9]), x[1][5] % 2), 1, 220):
         _, code, there, value, f, prior, format, structure, t, answer = c[:10]
         kinds = f"{kind_of('MvFormat', format)} {kind_of('PictureStructure', structure)} {kind_of('Component', t)}"
         words = f"{f} {z(code)} {residual(there, value)} {z(prior)} (halves {kinds})"
-        said, option, _ = component(answer, c[10:14])
-        m.case(
-            f"reconstructed_answer (component_refusal {words}) (component_of {words}) ≡ {said}",
-            f"reconstructed_number ({said}) ≡ {answer}",
-            f"reconstructed_value ({said}) ≡ {option}",
-        )
+        m.case(f"answered (component_refusal {words}) (component_of {words}) ≡ {said('VectorRefusal', answer, component(c[10:14]))}")
     for g, c in selection(kind(4), lambda x: (x[0], tuple(x[1][9:12]), x[1][16]), 1, 60):
         r, s, t = kind_of("VectorIndex", c[9]), kind_of("Direction", c[10]), kind_of("Component", c[11])
-        said, _, _ = component(c[16], c[17:21])
         words = f"{eight(c[1:9])} {r} {s} {t} {c[15]} {z(c[12])} {residual(c[13], c[14])} false"
         m.case(
-            f"(decoded {words} ported).answer ≡ {said}",
+            f"(decoded {words} ported).answer ≡ {said('VectorRefusal', c[16], component(c[17:21]))}",
             f"(decoded {words} ported).pmv ≡ {eight(c[21:29])}",
-            f"part_refusal {words} ported ≡ {c[16]}",
+            f"refusal_number vector_number (part_refusal {words} ported) ≡ {c[16]}",
         )
     vectors = selection(kind(5), lambda x: (x[0], x[1][21], x[1][9], x[1][10], x[1][19], x[1][20] == 2), 1, 100)
     # the vertical component alone is halved: priors that would be accepted halved
@@ -390,17 +395,13 @@ def pmv(repository):
     for g, c in vectors:
         r, s = kind_of("VectorIndex", c[9]), kind_of("Direction", c[10])
         mv = f"(vector {z(c[11])} {residual(c[12], c[13])} {z(c[14])} {residual(c[15], c[16])})"
-        h, v = component(0, c[22:26])[2], component(0, c[26:30])[2]
-        value = f"(record {{ horizontal = {h}; vertical = {v} }})"
-        said = f"Vec.Refused {c[21]}" if c[21] else f"Vec.Components {value}"
+        value = f"(record {{ horizontal = {component(c[22:26])}; vertical = {component(c[26:30])} }})"
         words = f"{c[17]} {c[18]} {kind_of('MvFormat', c[19])} {kind_of('PictureStructure', c[20])}"
         call = f"reconstructed {eight(c[1:9])} {mv} {r} {s} {words} ported"
         m.case(
-            f"({call}).answer ≡ {said}",
+            f"({call}).answer ≡ {said('VectorRefusal', c[21], value)}",
             f"({call}).pmv ≡ {eight(c[30:38])}",
-            f"vector_number ({said}) ≡ {c[21]}",
-            f"vector_value ({said}) ≡ {'none' if c[21] else 'some ' + value}",
-            f"vector_refusal (pair_of {eight(c[1:9])} {r} {s}) {mv} {words} ported ≡ {c[21]}",
+            f"refusal_number vector_number (vector_refusal (pair_of {eight(c[1:9])} {r} {s}) {mv} {words} ported) ≡ {c[21]}",
         )
     for g, c in selection(kind(6), lambda x: (x[1][3], x[1][1] % 4, x[1][1] < 0, x[1][2] % 4 == x[1][1] % 4), 1, 48):
         chroma = kind_of("ChromaFormat", c[3])
@@ -410,23 +411,15 @@ def pmv(repository):
         )
     distinct = lambda c: len(set(c[1:9])) == 8 and 0 not in c[1:9]
     for g, c in selection([x for x in kind(7) if distinct(x[1])], lambda x: tuple(x[1][9:16]), 1, 300):
-        type = f"(Motion.Present {kind_of('PredictionType', c[11])})" if c[10] else "Motion.Absent"
+        type = f"(Some {kind_of('PredictionType', c[11])})" if c[10] else "None"
         x = f"(context {kind_of('PictureStructure', c[9])} {type} {' '.join(flag(v) for v in c[12:16])})"
-        outcome = "Outcome." + OUTCOMES[c[17]]
-        said = f"U.Refused {c[16]}" if c[16] else f"U.Outcome {outcome}"
         m.case(
-            f"(updated {eight(c[1:9])} {x}).answer ≡ {said}",
+            f"(updated {eight(c[1:9])} {x}).answer ≡ {said('UpdateRefusal', c[16], 'Outcome.' + OUTCOMES[c[17]])}",
             f"(updated {eight(c[1:9])} {x}).pmv ≡ {eight(c[18:26])}",
-            f"update_refusal {x} ≡ {c[16]}",
+            f"refusal_number update_number (update_refusal {x}) ≡ {c[16]}",
         )
     for n, name in enumerate(OUTCOMES):
-        m.case(
-            f"outcome_number Outcome.{name} ≡ {n}",
-            f"update_number (U.Outcome Outcome.{name}) ≡ 0",
-            f"update_value (U.Outcome Outcome.{name}) ≡ some Outcome.{name}",
-            f"update_number (U.Refused {n + 7}) ≡ {n + 7}",
-            f"update_value (U.Refused {n + 7}) ≡ none",
-        )
+        m.case(f"outcome_number Outcome.{name} ≡ {n}")
     for g, c in selection([x for x in kind(8) if distinct(x[1])], lambda x: (x[1][9], min(x[1][10], 6)), 1, 40):
         call = f"spatial_temporal_reset {eight(c[1:9])} {kind_of('PictureCodingType', c[9])} {c[10]}"
         m.case(f"({call}).applied ≡ {flag(c[11])}", f"({call}).pmv ≡ {eight(c[12:20])}")
@@ -442,7 +435,7 @@ def pmv(repository):
 
 
 FRAMES_HEAD = """
-use Rattle.combine_predictions.specs.Refusals.{or_else, unless_refused}
+use Rattle.std.specs.Prelude.{is_some}
 use Rattle.forming_predictions.specs.Splitting.{floor_half, half_flag}
 use Rattle.forming_predictions.specs.Lines.{field_lines, clamp_to, row_of, sample_at}
 use Rattle.forming_predictions.specs.Forming.{combined, formed}
@@ -454,25 +447,19 @@ use Rattle.pmv.specs.Chroma.{trunc_half}
 use Rattle.pmv.specs.declared.kinds.ChromaFormat.TheVariants as ChromaFormat
 use Rattle.pmv.specs.declared.kinds.ChromaFormat.{ChromaFormat}
 use Rattle.inter_reconstruction.specs.Components.{ColourComponent, luma, cb, cr}
-use Rattle.inter_reconstruction.specs.Frames.{Samples, samples_of, lengths_of, is_present, read_reference}
+use Rattle.inter_reconstruction.specs.Frames.{Samples, samples_of, lengths_of, read_reference}
 use Rattle.inter_reconstruction.specs.Motion.{remaining, frame_wanted, field_wanted, frame_uses, field_uses}
 use Rattle.inter_reconstruction.specs.Macroblock.{field_sample, direction_sample, used_sample, rectangle, macroblock, predicted}
-use Rattle.inter_reconstruction.specs.Refusals.{same_geometry, planes_fit, prediction_refusal}
-use Rattle.inter_reconstruction.specs.Answers.{prediction_number, prediction_directions, accepted, prediction_answer}
+use Rattle.inter_reconstruction.specs.Refusals.{prediction_number, same_geometry, planes_fit, prediction_refusal}
+use Rattle.inter_reconstruction.specs.Answers.{prediction_directions, accepted}
 use Rattle.inter_reconstruction.specs.declared.motion.UsedDirections.TheVariants as Used
 use Rattle.inter_reconstruction.specs.declared.frames.FrameGeometry.{FrameGeometry}
 use Rattle.inter_reconstruction.specs.declared.frames.FrameBuffer.{FrameBuffer}
-use Rattle.inter_reconstruction.specs.declared.frames.ReferenceFrame.{ReferenceFrame}
-use Rattle.inter_reconstruction.specs.declared.frames.ReferenceFrame.TheVariants as Reference
-use Rattle.inter_reconstruction.specs.declared.macroblock.MacroblockPrediction.TheVariants.{Done, Refused}
+use Rattle.inter_reconstruction.specs.declared.macroblock.PredictionRefusal.TheVariants as PredictionRefusal
 use Rattle.inter_reconstruction.specs.declared.motion.MotionVectorPel.{MotionVectorPel}
 use Rattle.inter_reconstruction.specs.declared.motion.FieldVector.{FieldVector}
-use Rattle.inter_reconstruction.specs.declared.motion.FrameMotion.{FrameMotion}
-use Rattle.inter_reconstruction.specs.declared.motion.FieldBasedMotion.{FieldBasedMotion}
-use Rattle.inter_reconstruction.specs.declared.motion.FrameDirection.TheVariants as FrameDirection
-use Rattle.inter_reconstruction.specs.declared.motion.FrameDirection.{FrameDirection}
-use Rattle.inter_reconstruction.specs.declared.motion.FieldDirection.TheVariants as FieldDirection
-use Rattle.inter_reconstruction.specs.declared.motion.FieldDirection.{FieldDirection}
+use Rattle.inter_reconstruction.specs.declared.motion.FieldVectorPair.{FieldVectorPair}
+use Rattle.inter_reconstruction.specs.declared.motion.Motion.{Motion}
 """
 FRAMES_UNFOLDING = (
     "tabulate floor_half half_flag field_lines clamp_to row_of sample_at combined formed plane_fits trunc_half field_sample direction_sample used_sample "
@@ -484,22 +471,25 @@ geometry w h f = record { width = w; height = h; chroma_format = f }
 abbrev buffer : FrameGeometry → ℕ → ℕ → ℕ → ℕ → ℕ → ℕ → FrameBuffer
 buffer g yw yh bw bh rw rh = record { geometry = g; y = record { width = yw; height = yh }; cb = record { width = bw; height = bh }; cr = record { width = rw; height = rh } }
 
+abbrev absent : Option FrameBuffer
+absent = None
+
 abbrev vector : ℤ → ℤ → MotionVectorPel
 vector h v = record { horizontal = h; vertical = v }
 
 abbrev fieldVector : ℤ → ℤ → FieldParity → FieldVector
 fieldVector h v p = record { vector = vector h v; reference_field = p }
 
-abbrev frame_direction : ℤ → ℤ → FrameDirection
-frame_direction h v = FrameDirection.Present (vector h v)
+abbrev frame_direction : ℤ → ℤ → Option MotionVectorPel
+frame_direction h v = Some (vector h v)
 
-abbrev field_direction : FieldVector → FieldVector → FieldDirection
-field_direction t b = FieldDirection.Present (record { top = t; bottom = b })
+abbrev field_direction : FieldVector → FieldVector → Option FieldVectorPair
+field_direction t b = Some (record { top = t; bottom = b })
 
-abbrev frameMotion : FrameDirection → FrameDirection → FrameMotion
+abbrev frameMotion : Option MotionVectorPel → Option MotionVectorPel → Motion MotionVectorPel
 frameMotion f b = record { forward = f; backward = b }
 
-abbrev fieldMotion : FieldDirection → FieldDirection → FieldBasedMotion
+abbrev fieldMotion : Option FieldVectorPair → Option FieldVectorPair → Motion FieldVectorPair
 fieldMotion f b = record { forward = f; backward = b }
 
 abbrev lengths : ℕ → ℕ → ℕ → ColourComponent → ℕ
@@ -568,16 +558,16 @@ def macroblocks(repository):
 
     def reference(c, p):
         if c[0] == "0":
-            return "Reference.Absent"
+            return "absent"
         g = f"(geometry {c[1]} {c[2]} {kind_of('ChromaFormat', c[3])})"
-        return f"(Reference.Present (buffer {g} {' '.join(map(str, Macroblocks.sides(p)))}))"
+        return f"(Some (buffer {g} {' '.join(map(str, Macroblocks.sides(p)))}))"
 
     def parts(c):
         if c[0] == "2":
-            direction = lambda d: f"(frame_direction {z(d[1])} {z(d[2])})" if int(d[0]) else "FrameDirection.Absent"
+            direction = lambda d: f"(frame_direction {z(d[1])} {z(d[2])})" if int(d[0]) else "None"
             return f"frame_uses (frameMotion {direction(c[14:17])} {direction(c[17:20])})", c[20:]
         vector = lambda v: f"(fieldVector {z(v[0])} {z(v[1])} {kind_of('FieldParity', v[2])})"
-        direction = lambda d: f"(field_direction {vector(d[1:4])} {vector(d[4:7])})" if int(d[0]) else "FieldDirection.Absent"
+        direction = lambda d: f"(field_direction {vector(d[1:4])} {vector(d[4:7])})" if int(d[0]) else "None"
         return f"field_uses (fieldMotion {direction(c[14:21])} {direction(c[21:28])})", c[28:]
 
     def tail(c):
@@ -587,7 +577,7 @@ def macroblocks(repository):
         uses, rest = parts(c)
         dest = f"(geometry {c[1]} {c[2]} {kind_of('ChromaFormat', c[3])})"
         forward, backward = reference(c[4:8], f), reference(c[8:12], b)
-        u = f"({uses} (is_present {forward}) (is_present {backward}))"
+        u = f"({uses} (is_some {forward}) (is_some {backward}))"
         refusal = f"prediction_refusal {dest} {rest[1]} {forward} {fn} {backward} {bn} {u} {c[12]} {c[13]}"
         return refusal, dest, forward, backward, u, rest
 
@@ -598,15 +588,20 @@ def macroblocks(repository):
     for group, c, f, b in selection(calls.calls, lambda x: signature(x) if x[0] in "abdemnqrstw" else None, 1, 260):
         refusal, _, _, _, u, rest = call(c, f or no_planes, b or no_planes, numbers(f or no_planes), numbers(b or no_planes))
         answer = int(rest[2])
-        said = f"prediction_answer ({refusal}) (accepted {u})"
-        used = "none" if answer else f"some {USED[rest[3]]}"
-        wanted = u.replace("_uses (", "_wanted (", 1).replace(" (is_present", ") (is_present", 1)
-        m.case(f"prediction_number ({said}) ≡ {answer}", f"prediction_directions ({said}) ≡ {used}", f"remaining ({wanted[1:-1]} ≡ {u}")
+        used = "" if answer else USED[rest[3]]
+        told = f"(answered ({refusal}) (accepted {u}))"
+        wanted = u.replace("_uses (", "_wanted (", 1).replace(" (is_some", ") (is_some", 1)
+        m.case(
+            f"{told} ≡ {said('PredictionRefusal', answer, f'(record {{ directions = {used} }})')}",
+            f"refusal_number prediction_number ({refusal}) ≡ {answer}",
+            f"prediction_directions {told} ≡ {optional(answer, used)}",
+            f"remaining ({wanted[1:-1]} ≡ {u}",
+        )
     several = selection([x for x in calls.calls if x[0] == "u"], lambda x: tuple(x[1][1:14]) + tuple(tail(x[1])[1:3]), 1, 150)
     several += selection([x for x in calls.calls if x[0] == "v"], lambda x: 0, len(calls.calls), len(calls.calls))
     for group, c, f, b in several:
         refusal, _, _, _, _, rest = call(c, f or no_planes, b or no_planes, numbers(f or no_planes), numbers(b or no_planes))
-        m.case(f"{refusal} ≡ {rest[2]}")
+        m.case(f"refusal_number prediction_number ({refusal}) ≡ {rest[2]}")
     # and samples, some of each macroblock
     small = [x for x in calls.calls if x[2] and x[3] and Macroblocks.size(x[2]) + Macroblocks.size(x[3]) <= 2100 and tail(x[1])[2] == "0"]
     directions = lambda c: (c[14], c[17] if c[0] == "2" else c[21])
@@ -620,8 +615,7 @@ def macroblocks(repository):
         if not after:
             continue
         value = f"predicted rounded {dest}.chroma_format (read_reference {forward} {fp}) (read_reference {backward} {bp}) {u} {c[12]} {c[13]}"
-        number = f"prediction_number (prediction_answer ({refusal}) (accepted {u}))"
-        m.define(f"abbrev block{n} : List ℕ\nblock{n} = unless_refused ({number}) ({value}) (filled {rest[0]} {rest[1]})")
+        m.define(f"abbrev block{n} : List ℕ\nblock{n} = unless_refused ({refusal}) ({value}) (filled {rest[0]} {rest[1]})")
         chroma = (len(after) - 256) // 2
         spots = [0, 17 + n % 7, 256 + n % chroma, 256 + chroma - 1, 256 + chroma + (11 * n) % chroma, len(after) - 1, (37 * n) % 256]
         m.case(*[f"get_or block{n} {k} 0 ≡ {after[k]}" for k in sorted(set(spots))], f"length block{n} ≡ {len(after)}")
@@ -640,10 +634,10 @@ use Rattle.pmv.specs.declared.kinds.ChromaFormat.{ChromaFormat}
 use Rattle.inter_reconstruction.specs.Components.{ColourComponent, luma, cb, cr}
 use Rattle.inter_reconstruction.specs.Frames.{Samples, samples_of}
 use Rattle.inter_reconstruction.specs.Refusals.{planes_fit}
-use Rattle.inter_reconstruction.specs.Placing.{stored, placed, picture_fits, well_formed, placing_refusal, placing_number, placing_answer}
+use Rattle.inter_reconstruction.specs.Placing.{stored, placed, picture_fits, well_formed, placing_refusal, placing_number}
 use Rattle.inter_reconstruction.specs.declared.frames.FrameGeometry.{FrameGeometry}
 use Rattle.inter_reconstruction.specs.declared.frames.FrameBuffer.{FrameBuffer}
-use Rattle.inter_reconstruction.specs.declared.placing.MacroblockPlacement.TheVariants.{Done, Refused}
+use Rattle.inter_reconstruction.specs.declared.placing.PlacingRefusal.TheVariants as PlacingRefusal
 """,
         "tabulate stored plane_fits planes_fit picture_fits well_formed",
     )
@@ -661,12 +655,8 @@ use Rattle.inter_reconstruction.specs.declared.placing.MacroblockPlacement.TheVa
         for name, plane in zip(("luma", "cb", "cr"), c.planes(lambda k: 1000 + k)):
             m.case(f"placed {picture(c)} {c.col} {c.row} (bytes {c.bytes}) (grey {counts}) {name} ≡ {lst(plane)}")
     for c in placing.refusals():
-        said = f"Refused {c.number}" if c.number else "Done"
-        counts = " ".join(map(str, c.counts))
-        m.case(
-            f"placing_answer (placing_refusal {picture(c)} (lengths {counts}) {c.bytes} {c.col} {c.row}) ≡ {said}",
-            f"placing_number ({said}) ≡ {c.number}",
-        )
+        refusal = f"(placing_refusal {picture(c)} (lengths {' '.join(map(str, c.counts))}) {c.bytes} {c.col} {c.row})"
+        m.case(f"answered {{A = Unit {{0}}}} {refusal} tt ≡ {said('PlacingRefusal', c.number, 'tt')}", f"refusal_number placing_number {refusal} ≡ {c.number}")
     return m
 
 
@@ -692,21 +682,20 @@ def predictor_bytes(values):
 
 def entries(repository):
     head = PMV_HEAD + """
-use Rattle.combine_predictions.specs.Refusals.{or_else, unless_refused}
+use Rattle.std.specs.Result.{result_err}
 use Rattle.forming_predictions.specs.declared.FieldParity.TheVariants as FieldParity
 use Rattle.pmv.specs.declared.predictors.PredictorPair.{PredictorPair}
 use Rattle.pmv.specs.Kinds as Kinds
 use Rattle.entry_points.specs.Layout.{signed_of, word_of, bytes_of, number_at, predictors_of, numbers_bytes, predictor_bytes, pair_bytes, with_pair}
-use Rattle.entry_points.specs.Entries.{unknown_refusal, is_yes, vector_known, update_known, residual_of, type_of, index_of, direction_of, format_of, structure_of, motion_vector_of, vector_from, vector_bytes, context_of, frame_known, field_known, reference_known, fields_known, geometry_of, reference_of, frame_direction_of, field_vector_of, field_direction_of, frame_motion_of, field_motion_of}
-use Rattle.inter_reconstruction.specs.declared.frames.ReferenceFrame.TheVariants as Reference
-use Rattle.inter_reconstruction.specs.declared.motion.FrameDirection.TheVariants as Frame
-use Rattle.inter_reconstruction.specs.declared.motion.FieldDirection.TheVariants as Field
-""" + "".join(f"use Rattle.pmv.specs.declared.kinds.Option{n}.TheVariants as Option{n}\n" for n in ["Flag", *HEADER] if n != "Component")
+use Rattle.entry_points.specs.Entries.{call_number, unless_number, is_yes, vector_known, update_known, residual_of, type_of, index_of, direction_of, format_of, structure_of, motion_vector_of, vector_from, vector_bytes, context_of, frame_known, field_known, reference_known, fields_known, geometry_of, reference_of, frame_direction_of, field_vector_of, field_direction_of, frame_motion_of, field_motion_of}
+use Rattle.inter_reconstruction.specs.Refusals.{prediction_number}
+"""
     m = Module(
         head,
         PMV_UNFOLDING + " bytes_of number_at predictors_of numbers_bytes with_pair vector_known update_known residual_of type_of frame_known field_known "
         "reference_known fields_known geometry_of reference_of frame_direction_of field_vector_of field_direction_of",
     )
+    m.define(PMV_HELP)
     # kinds, by the header's numbers
     numbers = header_numbers(repository)
     for name, (c_name, values) in HEADER.items():
@@ -715,23 +704,25 @@ use Rattle.inter_reconstruction.specs.declared.motion.FieldDirection.TheVariants
             n = numbers[c_name][c_value]
             equations = [] if name == "FieldParity" else [f"Kinds.{short}_number {name}.{value} ≡ {n}"]
             if name != "Component":
-                some = f"(Option{name}.Some {name}.{value})"
-                equations += [f"Kinds.{short}_from {n} ≡ {some}", f"Kinds.{short}_known {some} ≡ true", f"Kinds.{short}_or {some} ≡ {name}.{value}"]
+                equations.append(f"Kinds.{short}_from {n} ≡ Some {name}.{value}")
             m.case(*equations)
         if name != "Component":
             for n in (len(values), len(values) + 1, 2**32 - 1):
-                m.case(f"Kinds.{short}_from {n} ≡ Option{name}.None")
-            m.case(f"Kinds.{short}_known Option{name}.None ≡ false")
+                m.case(f"Kinds.{short}_from {n} ≡ None")
     for n, value in ((numbers["flag"]["NO"], "false"), (numbers["flag"]["YES"], "true")):
-        some = f"(OptionFlag.Some {value})"
-        m.case(
-            f"Kinds.flag_from {n} ≡ {some}",
-            f"Kinds.flag_known {some} ≡ true",
-            f"Kinds.flag_or {some} ≡ {value}",
-            f"is_yes {n} ≡ {value}",
-        )
+        m.case(f"Kinds.flag_from {n} ≡ Some {value}", f"is_yes {n} ≡ {value}")
     for n in (2, 3, 256, 257):
-        m.case(f"Kinds.flag_from {n} ≡ OptionFlag.None", "Kinds.flag_known OptionFlag.None ≡ false")
+        m.case(f"Kinds.flag_from {n} ≡ None")
+    # what a call tells and leaves
+    m.case(
+        "call_number vector_number true None ≡ 0",
+        "call_number vector_number true (Some VectorRefusal.DeltaOutside) ≡ 5",
+        "call_number vector_number false None ≡ 38",
+        "call_number vector_number false (Some VectorRefusal.DeltaOutside) ≡ 38",
+        "unless_number {A = ℕ} 0 7 9 ≡ 7",
+        "unless_number {A = ℕ} 1 7 9 ≡ 9",
+        "unless_number {A = ℕ} 38 7 9 ≡ 9",
+    )
     for n, value in enumerate(KINDS["PictureCodingType"][0]):
         m.case(
             f"Kinds.coding_number PictureCodingType.{value} ≡ {n}",
@@ -755,10 +746,13 @@ use Rattle.inter_reconstruction.specs.declared.motion.FieldDirection.TheVariants
         l, after = lst(predictor_bytes(c[1:9])), lst(predictor_bytes(c[30:38]))
         mv = f"(motion_vector_of {z(c[11])} {c[12]} {c[13]} {z(c[14])} {c[15]} {c[16]})"
         got = f"vector_from {l} (index_of {c[9]}) (direction_of {c[10]}) {mv} {c[17]} {c[18]} (format_of {c[19]}) (structure_of {c[20]})"
+        component = lambda values: "(component " + " ".join(z(v) for v in values) + ")"
+        value = f"(record {{ horizontal = {component(c[22:26])}; vertical = {component(c[26:30])} }})"
         known = f"vector_known {c[9]} {c[10]} {c[12]} {c[15]} {c[19]} {c[20]} 32 8"
         vector = lst(word(c[22]) + word(c[26]) if not c[21] else old)
         m.case(
-            f"or_else (unknown_refusal ({known})) (vector_number ({got}).answer) ≡ {c[21]}",
+            f"call_number vector_number ({known}) (result_err ({got}).answer) ≡ {c[21]}",
+            f"({got}).answer ≡ {said('VectorRefusal', c[21], value)}",
             f"with_pair {l} (index_of {c[9]}) (direction_of {c[10]}) ({got}).predictors ≡ {after}",
             f"vector_bytes ({got}).answer {lst(old)} ≡ {vector}",
         )
@@ -767,21 +761,22 @@ use Rattle.inter_reconstruction.specs.declared.motion.FieldDirection.TheVariants
         l = lst(predictor_bytes(c[1:9]))
         words = " ".join(str(v) for v in c[9:16])
         m.case(
-            f"or_else (unknown_refusal (update_known {words} 32 1)) (update_refusal (context_of {words})) ≡ {c[16]}",
+            f"call_number update_number (update_known {words} 32 1) (update_refusal (context_of {words})) ≡ {c[16]}",
             f"predictor_bytes (updated (predictors_of {l}) (context_of {words})).pmv ≡ {lst(predictor_bytes(c[18:26]))}",
         )
     # one number without a meaning, or a length, at a time: 38; what stands beside an absence is not read
     def unknowns(name, right, wrong, free=()):
-        m.case(f"unknown_refusal ({name} {' '.join(map(str, right))}) ≡ 0")
+        number = lambda words: f"call_number prediction_number ({name} {' '.join(map(str, words))}) None"
+        m.case(f"{number(right)} ≡ 0")
         for k, values in wrong.items():
             for v in values:
                 other = list(right)
                 other[k] = v
-                m.case(f"unknown_refusal ({name} {' '.join(map(str, other))}) ≡ 38")
+                m.case(f"{number(other)} ≡ 38")
         for k, v in free:
             other = list(right)
             other[k] = v
-            m.case(f"unknown_refusal ({name} {' '.join(map(str, other))}) ≡ 0")
+            m.case(f"{number(other)} ≡ 0")
 
     two, three, four = (2, 7), (3, 7), (4, 7)
     unknowns(
@@ -809,28 +804,28 @@ use Rattle.inter_reconstruction.specs.declared.motion.FieldDirection.TheVariants
     # what the numbers of the prediction calls are put together to; every number is another
     g = "record { width = 11; height = 12; chroma_format = ChromaFormat.Yuv422 }"
     plane = lambda a, b: f"record {{ width = {a}; height = {b} }}"
-    there = f"Reference.Present (record {{ geometry = {g}; y = {plane(13, 14)}; cb = {plane(15, 16)}; cr = {plane(17, 18)} }})"
+    there = f"Some (record {{ geometry = {g}; y = {plane(13, 14)}; cb = {plane(15, 16)}; cr = {plane(17, 18)} }})"
     m.case(
         f"geometry_of 11 12 1 ≡ {g}",
         f"reference_of 1 11 12 1 13 14 15 16 17 18 ≡ {there}",
-        "reference_of 0 11 12 1 13 14 15 16 17 18 ≡ Reference.Absent",
+        "reference_of 0 11 12 1 13 14 15 16 17 18 ≡ None",
     )
     v = lambda h, w: f"record {{ horizontal = {z(h)}; vertical = {z(w)} }}"
     u = lambda h, w, p: f"record {{ vector = {v(h, w)}; reference_field = FieldParity.{p} }}"
-    m.case(f"frame_direction_of 1 {z(3)} {z(-4)} ≡ Frame.Present ({v(3, -4)})", f"frame_direction_of 0 {z(3)} {z(-4)} ≡ Frame.Absent")
+    m.case(f"frame_direction_of 1 {z(3)} {z(-4)} ≡ Some ({v(3, -4)})", f"frame_direction_of 0 {z(3)} {z(-4)} ≡ None")
     m.case(
-        f"(frame_motion_of 1 {z(3)} {z(-4)} 1 {z(5)} {z(6)}).forward ≡ Frame.Present ({v(3, -4)})",
-        f"(frame_motion_of 1 {z(3)} {z(-4)} 1 {z(5)} {z(6)}).backward ≡ Frame.Present ({v(5, 6)})",
+        f"(frame_motion_of 1 {z(3)} {z(-4)} 1 {z(5)} {z(6)}).forward ≡ Some ({v(3, -4)})",
+        f"(frame_motion_of 1 {z(3)} {z(-4)} 1 {z(5)} {z(6)}).backward ≡ Some ({v(5, 6)})",
     )
     m.case(
-        f"(frame_motion_of 0 {z(3)} {z(-4)} 1 {z(5)} {z(6)}).forward ≡ Frame.Absent",
-        f"(frame_motion_of 1 {z(3)} {z(-4)} 0 {z(5)} {z(6)}).backward ≡ Frame.Absent",
+        f"(frame_motion_of 0 {z(3)} {z(-4)} 1 {z(5)} {z(6)}).forward ≡ None",
+        f"(frame_motion_of 1 {z(3)} {z(-4)} 0 {z(5)} {z(6)}).backward ≡ None",
     )
-    pair = lambda a, b: f"Field.Present (record {{ top = {a}; bottom = {b} }})"
+    pair = lambda a, b: f"Some (record {{ top = {a}; bottom = {b} }})"
     for flags in ((1, 1), (0, 1), (1, 0)):
         call = f"field_motion_of {flags[0]} 1 {z(3)} {z(-4)} 0 {z(5)} {z(6)} {flags[1]} 0 {z(7)} {z(8)} 1 {z(-9)} {z(10)}"
-        forward = pair(u(3, -4, "Bottom"), u(5, 6, "Top")) if flags[0] else "Field.Absent"
-        backward = pair(u(7, 8, "Top"), u(-9, 10, "Bottom")) if flags[1] else "Field.Absent"
+        forward = pair(u(3, -4, "Bottom"), u(5, 6, "Top")) if flags[0] else "None"
+        backward = pair(u(7, 8, "Top"), u(-9, 10, "Bottom")) if flags[1] else "None"
         m.case(f"({call}).forward ≡ {forward}", f"({call}).backward ≡ {backward}")
     return m
 
@@ -849,7 +844,7 @@ fits k n cr h = refl
 # what the parts of the claim about drift say, by what follows from each
 CLAIM_USES = """use mathlib.Core.Path.{◌≡◌}
 use mathlib.Core.List.{[]}
-use mathlib.Core.Option.{some}
+use Rattle.std.specs.Prelude.{Some}
 use Prim.Native.Nat.{ℕ, ◌<◌}
 use native.Mathlib.Omega.{arith}
 use lib.ListN.{length, get_or}
@@ -863,10 +858,10 @@ CLAIMS = """
 pub fitting-last : (p : Pictures) → Fitting wide 2 p → length (p 2 luma) ≡ 512
 fitting-last p h = h 2 luma (omega arith)
 
-pub lower-is : (n j : ℕ) → Lower n (some j) → j < n
+pub lower-is : (n j : ℕ) → Lower n (Some j) → j < n
 lower-is n j h = h
 
-pub lower-of : (n j : ℕ) → j < n → Lower n (some j)
+pub lower-of : (n j : ℕ) → j < n → Lower n (Some j)
 lower-of n j h = h
 
 pub within-is : DriftWithin 2 9 5

@@ -9,6 +9,39 @@ import antt
 import rattle
 
 CRATE = "definitions"
+# What the definitions have of the library, which this crate does not read: antt.py gives its modules.
+PRELUDE = """pub enum Option<T> {
+    None,
+    Some(T),
+}
+
+pub enum Result<T, E> {
+    Ok(T),
+    Err(E),
+}
+"""
+WORDS = f"""use mathlib.Core.Bool.{{Bool, true, false}}
+use {antt.OWN}.declared.prelude.Option.{{Option}}
+use {antt.OWN}.declared.prelude.Option.TheVariants.{{None, Some}}
+use {antt.OWN}.declared.prelude.Result.{{Result}}
+use {antt.OWN}.declared.prelude.Result.TheVariants.{{Ok, Err}}
+
+abbrev pub is_some : {{T : Type 0}} → Option T → Bool
+is_some None = false
+is_some (Some x) = true
+
+abbrev pub unwrap_or : {{T : Type 0}} → Option T → T → T
+unwrap_or None d = d
+unwrap_or (Some x) d = x
+
+abbrev pub option_map : {{T U : Type 0}} → (T → U) → Option T → Option U
+option_map f None = None
+option_map f (Some x) = Some (f x)
+
+abbrev pub result_err : {{T E : Type 0}} → Result T E → Option E
+result_err (Ok x) = None
+result_err (Err e) = Some e
+"""
 # crates whose definitions are believed, lowest first; the last two have cases
 CRATES = ["laws", "combine_predictions", "forming_predictions", "pmv", "inter_reconstruction", "entry_points", "drift", "worked_cases", "worked_runs"]
 
@@ -33,10 +66,9 @@ def renamed(text):
 
 
 def types_of(text, crate):
-    """the structs and enums of a file, its modules, and the types that it uses"""
+    """the public structs and enums of a file, its modules, and the types that it uses"""
     source = rattle.Source(text)
     tokens, kept, i = source.tokens, [], 0
-    declared = " ".join(t.text for t in tokens)
     while i < len(tokens):
         start = i
         if tokens[i].text == "pub" and tokens[i + 1].text in ("struct", "enum", "mod"):
@@ -46,7 +78,8 @@ def types_of(text, crate):
             while tokens[i].text not in ("{", ";"):
                 i += 1
             i = source.partner[i] if tokens[i].text == "{" else i
-            kept.append(text[tokens[start].at : tokens[i].at + 1])
+            if i > start and tokens[start].text == "pub":
+                kept.append(text[tokens[start].at : tokens[i].at + 1])
         elif word in ("mod", "use") and tokens[start].text != "ghost":
             while tokens[i].text != ";":
                 i += 1
@@ -54,7 +87,7 @@ def types_of(text, crate):
         elif word == "ghost":
             while tokens[i].text != ";":
                 i += 1
-        elif word in ("fn", "impl"):
+        elif word in ("fn", "impl", "trait"):
             while tokens[i].text != "{":
                 if tokens[i].text in ("requires", "ensures"):
                     while tokens[i].text != "{":
@@ -62,12 +95,12 @@ def types_of(text, crate):
                     i = source.partner[i]
                 i += 1
             i = source.partner[i]
-        elif word == "const":
+        elif word in ("const", "static"):
             while tokens[i].text != ";":
                 i = source.partner[i] + 1 if tokens[i].text in "([{" else i + 1
         i += 1
     body = "\n".join(k for k in kept if not k.startswith("use "))
-    uses = []
+    uses = [f"use crate::prelude::{name};" for name in ("Option", "Result") if re.search(rf"\b{name}<", body)]
     for k in kept:
         m = re.fullmatch(r"use (\w+)((?:::\w+)*)::(\w+|\{[^{}]*\});", k)
         for name in re.findall(r"\w+", m.group(3)) if m else []:
@@ -119,8 +152,10 @@ def make(repository, folder, proofs, crates):
                 write(os.path.join(folder, "src", crate + ".rt"), text)
             elif path in full:
                 write(os.path.join(folder, "src", crate, path), text)
-    write(os.path.join(folder, "src", "lib.rt"), "".join(f"pub mod {c};\n" for c in roots))
-    write(os.path.join(folder, "specs", "Lib.antt"), "".join(f"pub mod {c}\n" for c in crates))
+    write(os.path.join(folder, "src", "prelude.rt"), PRELUDE)
+    write(os.path.join(folder, "src", "lib.rt"), "".join(f"pub mod {c};\n" for c in ["prelude", *roots]))
+    write(os.path.join(folder, "specs", "prelude.antt"), WORDS)
+    write(os.path.join(folder, "specs", "Lib.antt"), "".join(f"pub mod {c}\n" for c in ["prelude", *crates]))
     modules = {c: [] for c in crates}
     for crate, name, text in spec_files(repository):
         if crate not in crates:

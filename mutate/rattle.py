@@ -26,10 +26,11 @@ ORDERED = {"-", "/", "%", "<", "<<", ">>"}
 PAIRS = [
     ("width", "height"), ("forward", "backward"), ("cb", "cr"), ("horizontal", "vertical"), ("horiz", "vert"), ("top", "bottom"),
     ("x", "y"), ("dx", "dy"), ("first", "second"), ("first", "step"), ("upper", "lower"), ("row", "below"), ("low", "high"),
-    ("col", "row"), ("columns", "lines"), ("present", "type"), ("e", "f"), ("a", "b"), ("d", "e"),
+    ("col", "row"), ("columns", "lines"), ("present", "type"), ("e", "f"), ("a", "b"), ("d", "e"), ("right", "below"),
 ]  # fmt: skip
 
 HEADERS = {"if", "while", "for", "match"}
+PRIMITIVE = {"bool", "u8", "u16", "u32", "u64", "usize", "i8", "i16", "i32", "i64", "isize"}
 KEYWORDS = HEADERS | {"let", "mut", "return", "else", "loop", "as", "in", "true", "false", "break", "continue", "self", "Self"}
 
 
@@ -65,12 +66,20 @@ class Source:
         self.tokens = tokens_of(text)
         self.partner = closing_places(self.tokens)
         self.functions = []  # name, place of '(', of the body's '{'
-        self.constants = []  # name, type, first place of the value, place of ';'
-        self.enums = {}  # name: variants, each with whether it holds something
+        self.constants = []  # name, type, first place of the value, place after it: of constants, and of variants that have a number
+        self.enums = {}  # name: variants, each with how many fields it has
         self.find_items(0, len(self.tokens), "")
 
     def is_at(self, i, text):
         return 0 <= i < len(self.tokens) and self.tokens[i].text == text
+
+    def parameter_count(self, opening):
+        """how many types stand in the brackets of a variant"""
+        k, count = opening + 1, 1
+        while k < self.partner[opening]:
+            count += self.tokens[k].text == "," and k + 1 < self.partner[opening]
+            k = self.partner[k] + 1 if self.tokens[k].text in "([{" else k + 1
+        return count
 
     def parameter_types(self, opening):
         """the types of a function's parameters but for self, without lifetimes"""
@@ -88,30 +97,49 @@ class Source:
                 k = e
         return types
 
+    def past_generics(self, i):
+        """the place after the parameters or arguments in angle brackets that begin at i"""
+        depth = 0
+        while True:
+            depth += {"<": 1, ">": -1, ">>": -2}.get(self.tokens[i].text, 0)
+            i += 1
+            if depth == 0:
+                return i
+
+    def implementer(self, start, body):
+        """what the functions of an `impl` are known by: its type, or its trait where the type is not of the crates"""
+        if self.tokens[start].text == "<":
+            start = self.past_generics(start)
+        words = [x.text for x in self.tokens[start:body]]
+        trait, kind = (words[: words.index("for")], words[words.index("for") + 1 :]) if "for" in words else ([], words)
+        return "".join(trait if kind[0] in PRIMITIVE else kind[:1]) + "::"
+
     def find_items(self, i, end, within):
         t = self.tokens
         while i < end:
             word = t[i].text
-            if word == "impl":
+            if word == "#":  # an attribute
+                i = self.partner[i + 2 if t[i + 1].text == "!" else i + 1]
+            elif word in ("impl", "trait"):
                 body = next(k for k in range(i, end) if t[k].text == "{")
-                self.find_items(body + 1, self.partner[body], t[body - 1].text + "::")
+                self.find_items(body + 1, self.partner[body], self.implementer(i + 1, body) if word == "impl" else t[i + 1].text + "::")
                 i = self.partner[body]
             elif word == "fn":
                 name = t[i + 1].text
-                k = i + 2
-                while t[k].text != "(":
-                    k += 1
+                k = self.past_generics(i + 2) if t[i + 2].text == "<" else i + 2
                 parameters = k
                 k = self.partner[k] + 1
-                while t[k].text != "{":
+                while t[k].text not in ("{", ";"):
                     if t[k].text in ("requires", "ensures"):
                         while t[k].text != "{":
                             k += 1
                         k = self.partner[k]
-                    k += 1
-                self.functions.append((within + name, parameters, k))
-                i = self.partner[k]
-            elif word == "const":
+                    k = self.partner[k] + 1 if t[k].text in "([" else k + 1
+                if t[k].text == "{":  # a trait's function may have no body
+                    self.functions.append((within + name, parameters, k))
+                    k = self.partner[k]
+                i = k
+            elif word in ("const", "static"):
                 k = i
                 while t[k].text != "=":
                     k += 1
@@ -124,9 +152,14 @@ class Source:
                 body = i + 2
                 variants, k = [], body + 1
                 while k < self.partner[body]:
-                    holds = self.is_at(k + 1, "(")
-                    variants.append((t[k].text, holds))
-                    k = self.partner[k + 1] + 2 if holds else k + 2
+                    fields = self.parameter_count(k + 1) if self.is_at(k + 1, "(") else 0
+                    variants.append((t[k].text, fields))
+                    first = k
+                    while k < self.partner[body] and t[k].text != ",":  # it may have fields, or a number
+                        k = self.partner[k] + 1 if t[k].text in "([{" else k + 1
+                    if self.is_at(first + 1, "="):
+                        self.constants.append((f"{t[i + 1].text}::{t[first].text}", "", first + 2, k))
+                    k += 1
                 self.enums[t[i + 1].text] = variants
                 i = self.partner[body]
             elif word in ("struct", "use", "ghost", "mod"):
@@ -150,7 +183,7 @@ class Mutants:
 
     def all(self):
         for name, kind, start, end in self.s.constants:
-            self.function, self.patterns = name, set()
+            self.function, self.patterns, self.brackets = name, set(), set()
             self.names = set()
             self.expressions(start, end)
         for name, parameters, body in self.s.functions:
@@ -159,7 +192,8 @@ class Mutants:
             self.names = {x.text for x in self.t[parameters:end] if x.kind == "word"}
             self.patterns = set()
             self.kinds = self.brace_kinds(body, end)
-            self.find_patterns(body, end)
+            self.find_patterns()
+            self.find_generics(body, end)
             self.expressions(body + 1, end)
             self.statements(body, end)
         return self.edits
@@ -198,8 +232,13 @@ class Mutants:
         for i, token in enumerate(self.t):
             if token.at >= line:
                 break
-            if token.text == "(" and self.t[self.partner[i]].at >= start and self.t[i - 1].kind == "word":
-                inner = self.t[i - 1].text
+            if token.text == "(" and self.t[self.partner[i]].at >= start:
+                k = i - 1
+                while self.t[i - 1].text == ">" and self.t[k].text != "<":  # of `f::<8>(`
+                    k -= 1
+                k = k - 2 if self.t[k].text == "<" and self.t[k - 1].text == "::" else i - 1
+                if self.t[k].kind == "word":
+                    inner = self.t[k].text
         return inner
 
     # ---- what stands where
@@ -227,7 +266,16 @@ class Mutants:
             i += 1
         return kinds
 
-    def find_patterns(self, body, end):
+    def find_generics(self, body, end):
+        """the angle brackets of arguments as in `f::<8>(..)`, and the bars between the patterns of `matches!`: these are no operators"""
+        self.brackets = set()
+        for i in range(body, end):
+            if self.t[i].text == "::" and self.s.is_at(i + 1, "<"):
+                self.brackets |= {i + 1, self.s.past_generics(i + 1) - 1}
+            elif self.t[i].text == "matches" and self.s.is_at(i + 1, "!"):
+                self.brackets |= {k for k in range(i + 2, self.partner[i + 2]) if self.t[k].text == "|"}
+
+    def find_patterns(self):
         for brace, kind in self.kinds.items():
             if kind != "match":
                 continue
@@ -253,9 +301,11 @@ class Mutants:
 
     def expressions(self, start, end):
         for i in range(start, end):
-            if i in self.patterns:
-                continue
             token = self.t[i]
+            if i in self.patterns:
+                if token.kind == "number":
+                    self.number(i)
+                continue
             if token.kind == "number":
                 self.number(i)
             elif token.kind == "word":
@@ -285,8 +335,9 @@ class Mutants:
             self.variant(i)
             return
         if following in ("::", "(", "{", "!") or (following == ":" and self.t[i - 1].text in ("{", ",")):
-            if following == "(":
-                self.arguments(i)
+            opening = self.opening(i)
+            if opening:
+                self.arguments(i, opening)
             return
         if text in self.constants:
             same = [c for c, kind in self.constants.items() if kind == self.constants[text]]
@@ -297,19 +348,24 @@ class Mutants:
             if other in self.names or before == ".":
                 self.add(start, end, other, "operand")
 
+    def opening(self, i):
+        """where the arguments of the function at i begin, if it is called there"""
+        k = self.s.past_generics(i + 2) if self.s.is_at(i + 1, "::") and self.s.is_at(i + 2, "<") else i + 1
+        return k if self.s.is_at(k, "(") else None
+
     def variant(self, i):
         name, enum = self.t[i].text, self.t[i - 2].text
-        if self.s.is_at(i + 1, "("):
-            self.arguments(i)
+        opening = self.opening(i)
+        if opening:
+            self.arguments(i, opening)
         variants = self.enums.get(enum, [])
         held = dict(variants).get(name)
         same = [v for v, holds in variants if holds == held]
         if held is not None and len(same) > 1:
             self.add(self.place(i), self.after(i), same[(same.index(name) + 1) % len(same)], "constructor")
 
-    def arguments(self, i):
+    def arguments(self, i, opening):
         """two neighbouring arguments of one type, exchanged; those that `PAIRS` has are put in each other's place already"""
-        opening = i + 1
         closing, parts, first = self.partner[opening], [], opening + 1
         k = first
         while k < closing:
@@ -333,6 +389,8 @@ class Mutants:
             self.add(start, end, texts[n + 1] + between + texts[n], "exchange", f"{label} => {short[1]}, {short[0]}")
 
     def sign(self, i):
+        if i in self.brackets:
+            return
         text = self.t[i].text
         binary = i > 0 and self.is_operand_end(i - 1)
         start, end = self.place(i), self.after(i)
@@ -398,7 +456,9 @@ class Mutants:
             return k + 1 if self.s.is_at(k, ";") else k
         while k < stop and self.t[k].text != ";":
             k = self.partner[k] + 1 if self.t[k].text in "([{" else k + 1
-        if k < stop and self.t[i].text != "let" and not (self.t[i].text == "return" and k > i + 1):
+        # a call whose answer is not looked at is `let _ = ..`
+        bound = self.t[i].text == "let" and self.t[i + 1].text != "_"
+        if k < stop and not bound and not (self.t[i].text == "return" and k > i + 1):
             self.drop(first, k + 1)
         return k + 1
 
