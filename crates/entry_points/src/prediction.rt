@@ -197,6 +197,7 @@ fn predict_read<V: DirectionVectors>(
 }
 
 #[tactic(auto, unfolding(crate::specs::Entries::frame_known))]
+/// Its parameters, and those of the reader below, are the C calls' own.
 fn read_frame_prediction(
     width: usize,
     height: usize,

@@ -16,6 +16,7 @@ use Rattle.laws.proofs.Bounded.{Within}
 use Rattle.laws.proofs.Tests.{both, range}
 use Rattle.std.specs.Prelude.{Option, Some, None}
 use Rattle.combine_predictions.specs.Refusals.{cause, or_else}
+use Rattle.forming_predictions.specs.declared.FormingRefusal.{FormingRefusal}
 use Rattle.forming_predictions.specs.declared.FormingRefusal.TheVariants.{OutsideDomain, WrongLength}
 use Rattle.forming_predictions.specs.inner.Views.{SidesFit}
 use Rattle.forming_predictions.specs.Refusals.{forming_number, plane_fits, position_fits, block_side_fits, last_sample, last_block, plane_refusal, position_refusal, sample_refusal, block_refusal}

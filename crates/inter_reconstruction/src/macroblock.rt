@@ -215,6 +215,7 @@ fn predict_fields(
     requires { PlaneFits plane samples.now × BlockAt x y width height (length out.old) × FieldRows y height }
     ensures { out.new ≡ rectangle width height (direction_sample rounded (read_plane plane samples.now) (Field pair)) x y }
 {
+    // fixed memory: no heap in the layers, and no block is larger
     let mut halves = [0u8; 256];
     let n = width * height;
     let half = height / 2;
@@ -540,6 +541,7 @@ fn predict_from_two(
 
 // ---- the calls, with all that they refuse
 
+/// A function, since the definition is the scope's; `==` on all fields is the same.
 fn same_geometry(a: FrameGeometry, b: FrameGeometry) -> bool
     ensures { result ≡ same_geometry a b }
 {
