@@ -134,14 +134,14 @@ class CodeCourt:
 
     def judged(self, mutant):
         path = self.library.path(mutant.path)
-        text = flat.read(path)
+        text = flat.read(os.path.join(REPOSITORY, "crates", mutant.path))
         edit = mutant.edit
         names = sorted(JUDGES[mutant.crate], key=lambda n: n != RATHER.get(mutant.path))
         try:
-            flat.write(path, text[: edit.start] + edit.text + text[edit.end :])
+            self.library.write(path, text[: edit.start] + edit.text + text[edit.end :])
             module, said = self.library.module()
         finally:
-            flat.write(path, text)
+            self.library.write(path, text)
         if module is None:
             return REFUSED, said
         # what all let pass is run by the first of them with the address sanitizer
