@@ -1,6 +1,6 @@
 -- A signed argument stands in a goal as `to_z w32 (of_z w32 z)`. These laws take that off what calls ensure of lines and places.
 -- Assumes nothing.
-use Rattle.std.proofs.Common.{arith, ◌≡◌, sym, ◌∙◌, Bool, true, ℕ, ◌+◌, ◌≤◌, ◌<◌, ℤ, pos, ◌+ℤ◌}
+use Rattle.std.proofs.Common.{arith, ap, ◌≡◌, sym, ◌∙◌, Bool, true, ℕ, ◌+◌, ◌≤◌, ◌<◌, ℤ, pos, ◌+ℤ◌}
 use lib.Signed.{mag}
 use mir.Syntax.{w32}
 use mir.Val.{SFits, of_z, to_z}
@@ -14,7 +14,7 @@ use Rattle.forming_predictions.specs.declared.FormingRefusal.{FormingRefusal}
 use Rattle.forming_predictions.specs.declared.ReferencePlane.{ReferencePlane}
 use Rattle.forming_predictions.specs.Splitting.{floor_half, half_flag}
 use Rattle.forming_predictions.specs.Lines.{clamp_to}
-use Rattle.forming_predictions.specs.Refusals.{plane_refusal, sample_refusal, block_refusal}
+use Rattle.forming_predictions.specs.Planes.{count_of, plane_refused, sample_refused, block_refused}
 use Rattle.forming_predictions.specs.inner.Views.{inside_of, bit_of}
 use Rattle.forming_predictions.proofs.Lines.{clamp_lt}
 use Rattle.forming_predictions.proofs.Blocks.{inside_yes}
@@ -45,18 +45,21 @@ pub at_half : {b : ℕ} {v : ℤ} → SFits w32 v → b ≡ bit_of (half_flag (t
 at_half f e = rw (to_z-of_z f) at e
 
 -- ---- what the tests of a call say, where they refuse nothing
-module _ {p q : ReferencePlane} (e : p ≡ q) (n : ℕ) where
-  pub plane_accepted : {v : Unit {0}} → ◌≡◌ {A = Result Unit FormingRefusal} (Ok v) (answered (plane_refusal p.width p.height n) tt)
-      → plane_refusal q.width q.height n ≡ None
+module _ {p q : ReferencePlane} (e : p ≡ q) where
+  pub same_count : count_of p ≡ count_of q
+  same_count = ap (λ (r : ReferencePlane). count_of r) e
+
+  pub plane_accepted : {v : Unit {0}} → ◌≡◌ {A = Result Unit FormingRefusal} (Ok v) (answered (plane_refused p) tt)
+      → plane_refused q ≡ None
   plane_accepted d = is_accepted _ _ (rw e at d)
 
   module _ {x y : ℤ} (f : SFits w32 x) (g : SFits w32 y) where
     pub sample_accepted : {v : Unit {0}}
-        → ◌≡◌ {A = Result Unit FormingRefusal} (Ok v) (answered (sample_refusal p.width p.height n (to_z w32 (of_z w32 x)) (to_z w32 (of_z w32 y))) tt)
-        → sample_refusal q.width q.height n x y ≡ None
+        → ◌≡◌ {A = Result Unit FormingRefusal} (Ok v) (answered (sample_refused p (to_z w32 (of_z w32 x)) (to_z w32 (of_z w32 y))) tt)
+        → sample_refused q x y ≡ None
     sample_accepted d = is_accepted _ _ (rw (e, to_z-of_z f, to_z-of_z g) at d)
 
     pub block_accepted : {bw bh o : ℕ} {v : Unit {0}}
-        → ◌≡◌ {A = Result Unit FormingRefusal} (Ok v) (answered (block_refusal p.width p.height n (to_z w32 (of_z w32 x)) (to_z w32 (of_z w32 y)) bw bh o) tt)
-        → BlockRight q.width q.height n x y bw bh o
-    block_accepted {bw} {bh} {o} d = block_right q.width q.height n x y bw bh o (is_accepted _ _ (rw (e, to_z-of_z f, to_z-of_z g) at d))
+        → ◌≡◌ {A = Result Unit FormingRefusal} (Ok v) (answered (block_refused p (to_z w32 (of_z w32 x)) (to_z w32 (of_z w32 y)) bw bh o) tt)
+        → BlockRight q.sides.width q.sides.height (count_of q) x y bw bh o
+    block_accepted {bw} {bh} {o} d = block_right q.sides.width q.sides.height (count_of q) x y bw bh o (is_accepted _ _ (rw (e, to_z-of_z f, to_z-of_z g) at d))

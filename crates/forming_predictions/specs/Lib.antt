@@ -7,4 +7,5 @@ pub mod Lines
 pub mod Means
 pub mod Forming
 pub mod Refusals
+pub mod Planes
 pub mod inner

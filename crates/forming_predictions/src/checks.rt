@@ -3,7 +3,8 @@
 ghost use Rattle.std.specs.Prelude.{◌≡◌, not};
 ghost use Rattle.combine_predictions.specs.Refusals.{cause, answered};
 ghost use Rattle.forming_predictions.specs.declared.FormingRefusal.TheVariants.{OutsideDomain};
-ghost use Rattle.forming_predictions.specs.Refusals.{position_fits, block_side_fits, plane_refusal, sample_refusal, block_refusal};
+ghost use Rattle.forming_predictions.specs.Refusals.{plane_fits, position_fits, block_side_fits};
+ghost use Rattle.forming_predictions.specs.Planes.{count_of, plane_refused, sample_refused, block_refused};
 
 use crate::{
     BlockSize, FIRST_POSITION, FormingRefusal, LARGEST_BLOCK_SIDE, LAST_BLOCK, LAST_SAMPLE,
@@ -33,38 +34,37 @@ fn check_domain(fits: bool) -> Result<(), FormingRefusal>
     Err(FormingRefusal::OutsideDomain)
 }
 
-pub(crate) fn check_plane(plane: ReferencePlane, count: usize) -> Result<(), FormingRefusal>
-    ensures { result ≡ answered (plane_refusal plane.width plane.height count) tt }
+/// Whether a plane has as many samples as its sides say, and is in the domain.
+fn is_whole(plane: ReferencePlane<'_>) -> bool
+    ensures { result ≡ plane_fits plane.entry.sides.width plane.entry.sides.height (count_of plane.entry) }
 {
-    check_domain(plane_fits(plane, count))
+    plane_fits(plane.sides, plane.samples.len())
 }
 
-pub(crate) fn check_sample(
-    plane: ReferencePlane,
-    count: usize,
-    x: i32,
-    y: i32,
-) -> Result<(), FormingRefusal>
-    ensures { result ≡ answered (sample_refusal plane.width plane.height count x y) tt }
+pub(crate) fn check_plane(plane: ReferencePlane<'_>) -> Result<(), FormingRefusal>
+    ensures { result ≡ answered (plane_refused plane.entry) tt }
 {
-    check_domain(
-        plane_fits(plane, count) & (position_fits(LAST_SAMPLE, x) & position_fits(LAST_SAMPLE, y)),
-    )
+    check_domain(is_whole(plane))
+}
+
+pub(crate) fn check_sample(plane: ReferencePlane<'_>, x: i32, y: i32) -> Result<(), FormingRefusal>
+    ensures { result ≡ answered (sample_refused plane.entry x y) tt }
+{
+    check_domain(is_whole(plane) & (position_fits(LAST_SAMPLE, x) & position_fits(LAST_SAMPLE, y)))
 }
 
 pub(crate) fn check_block(
-    plane: ReferencePlane,
-    count: usize,
+    plane: ReferencePlane<'_>,
     x: i32,
     y: i32,
     size: BlockSize,
     room: usize,
 ) -> Result<(), FormingRefusal>
-    ensures { result ≡ answered (block_refusal plane.width plane.height count x y size.width size.height room) tt }
+    ensures { result ≡ answered (block_refused plane.entry x y size.width size.height room) tt }
 {
     let sides = block_side_fits(size.width) & block_side_fits(size.height);
     let positions = position_fits(LAST_BLOCK, x) & position_fits(LAST_BLOCK, y);
-    check_domain(plane_fits(plane, count) & (sides & positions))?;
+    check_domain(is_whole(plane) & (sides & positions))?;
     if room != size.width * size.height {
         return Err(FormingRefusal::WrongLength);
     }

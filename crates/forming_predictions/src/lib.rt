@@ -6,14 +6,19 @@ ghost use Rattle.std.specs.Prelude.{◌≡◌, ◌||◌, length};
 ghost use Rattle.std.specs.Result.{result_ok, result_err};
 ghost use Rattle.combine_predictions.specs.Refusals.{answered, value_unless, unless_refused};
 ghost use Rattle.forming_predictions.specs.Splitting.{floor_half, half_flag, IsSplit, horizontal_half, vertical_half};
-ghost use Rattle.forming_predictions.specs.Lines.{frame, field, field_lines, sample_at};
+ghost use Rattle.forming_predictions.specs.Lines.{frame, field, field_lines};
 ghost use Rattle.forming_predictions.specs.Means.{rounded};
 ghost use Rattle.forming_predictions.specs.Forming.{formed, predicted_block};
-ghost use Rattle.forming_predictions.specs.Refusals.{forming_number, plane_fits, plane_refusal, sample_refusal, block_refusal};
+ghost use Rattle.forming_predictions.specs.Refusals.{forming_number, plane_fits};
+ghost use Rattle.forming_predictions.specs.Planes.{read_at, plane_refused, sample_refused, block_refused};
 
-use calls::{predict_block_of, predict_sample_of, sample_of};
+use block::{form, moved, neighbour};
+use checks::{check_block, check_plane, check_sample};
+pub use reference::Reference;
+use reference::view_of;
+use view::Sides;
 
-mod calls;
+mod block;
 mod checks;
 mod edges;
 mod inside;
@@ -63,11 +68,18 @@ pub struct SplitVector {
     pub vertical: ComponentSplit,
 }
 
-/// The sides of a plane. Its samples, row after row, are passed beside it.
+/// The sides of a plane.
 #[derive(Clone, Copy, Debug, PartialEq, Eq)]
-pub struct ReferencePlane {
+pub struct PlaneSides {
     pub width: usize,
     pub height: usize,
+}
+
+/// A plane that is read: its sides, and its samples, row after row.
+#[derive(Clone, Copy, Debug, PartialEq, Eq)]
+pub struct ReferencePlane<'a> {
+    pub sides: PlaneSides,
+    pub samples: &'a [u8],
 }
 
 /// A field of a frame: the top field has rows 0, 2, 4 and so on, the bottom field rows 1, 3, 5.
@@ -79,8 +91,8 @@ pub enum FieldParity {
 
 /// A field of a plane that holds both fields, row by row in turn.
 #[derive(Clone, Copy, Debug, PartialEq, Eq)]
-pub struct FieldReference {
-    pub plane: ReferencePlane,
+pub struct FieldReference<'a> {
+    pub plane: ReferencePlane<'a>,
     pub parity: FieldParity,
 }
 
@@ -184,12 +196,12 @@ pub fn split_vector(horizontal: i32, vertical: i32) -> SplitVector
     }
 }
 
-impl FieldReference {
+impl<'a> FieldReference<'a> {
     /// The number of the field's lines. It is a difference for the top field, since `height + 1` may be too large a number.
     pub fn height(self) -> usize
-        ensures { result ≡ field_lines self.parity self.plane.height }
+        ensures { result ≡ field_lines self.entry.parity self.entry.plane.sides.height }
     {
-        let h = self.plane.height;
+        let h = self.plane.sides.height;
         let parity = self.parity;
         match parity {
             FieldParity::Top => h - h / 2,
@@ -201,82 +213,87 @@ impl FieldReference {
 // ---- refusals
 
 /// Whether a plane with so many samples is in the domain.
-pub fn plane_fits(plane: ReferencePlane, count: usize) -> bool
-    ensures { result ≡ plane_fits plane.width plane.height count }
+pub fn plane_fits(sides: PlaneSides, count: usize) -> bool
+    ensures { result ≡ plane_fits sides.width sides.height count }
 {
-    if plane.width > LARGEST_SIDE {
+    if sides.width > LARGEST_SIDE {
         return false;
     }
-    if plane.height > LARGEST_SIDE {
+    if sides.height > LARGEST_SIDE {
         return false;
     }
-    count == plane.width * plane.height
+    count == sides.width * sides.height
 }
 
 // ---- the calls
 
-impl ReferencePlane {
+/// The sample at (x, y). A plane has no samples where one of its sides is 0.
+fn sample_of<'a, R: Reference<'a>>(reference: R, x: i32, y: i32) -> Result<u8, FormingRefusal>
+    ensures answer { result ≡ answered (plane_refused (R.plane reference)) (read_at (R.lines reference) (R.plane reference) x y) }
+    ensures refusal { result_err result ≡ plane_refused (R.plane reference) }
+    ensures value { result_ok result ≡ value_unless (result_err result) (read_at (R.lines reference) (R.plane reference) x y) }
+{
+    let plane = reference.plane();
+    check_plane(plane)?;
+    if plane.samples.len() == 0 {
+        return Ok(0);
+    }
+    Ok(view_of(reference).sample(x, y))
+}
+
+impl<'a> ReferencePlane<'a> {
     /// The sample at (x, y), which is clamped to the plane: any position is taken. It refuses a plane that is outside the domain or whose
     /// samples are not width times height.
-    pub fn sample(self, samples: &[u8], x: i32, y: i32) -> Result<u8, FormingRefusal>
-        ensures answer { result ≡ answered (plane_refusal self.width self.height (length samples.now)) (sample_at frame self.width self.height samples.now x y) }
-        ensures refusal { result_err result ≡ plane_refusal self.width self.height (length samples.now) }
-        ensures value { result_ok result ≡ value_unless (result_err result) (sample_at frame self.width self.height samples.now x y) }
+    pub fn sample(self, x: i32, y: i32) -> Result<u8, FormingRefusal>
+        ensures answer { result ≡ answered (plane_refused self.entry) (read_at frame self.entry x y) }
+        ensures refusal { result_err result ≡ plane_refused self.entry }
+        ensures value { result_ok result ≡ value_unless (result_err result) (read_at frame self.entry x y) }
     {
-        sample_of(self, samples, x, y)
+        sample_of(self, x, y)
     }
 }
 
-impl FieldReference {
+impl<'a> FieldReference<'a> {
     /// The sample of the field at (x, y): y is clamped to the field's lines, x to the plane.
-    pub fn sample(self, samples: &[u8], x: i32, y: i32) -> Result<u8, FormingRefusal>
-        ensures answer { result ≡ answered (plane_refusal self.plane.width self.plane.height (length samples.now)) (sample_at (field self.parity) self.plane.width self.plane.height samples.now x y) }
-        ensures refusal { result_err result ≡ plane_refusal self.plane.width self.plane.height (length samples.now) }
-        ensures value { result_ok result ≡ value_unless (result_err result) (sample_at (field self.parity) self.plane.width self.plane.height samples.now x y) }
+    pub fn sample(self, x: i32, y: i32) -> Result<u8, FormingRefusal>
+        ensures answer { result ≡ answered (plane_refused self.entry.plane) (read_at (field self.entry.parity) self.entry.plane x y) }
+        ensures refusal { result_err result ≡ plane_refused self.entry.plane }
+        ensures value { result_ok result ≡ value_unless (result_err result) (read_at (field self.entry.parity) self.entry.plane x y) }
     {
-        sample_of(self, samples, x, y)
+        sample_of(self, x, y)
     }
 }
 
-/// The predicted sample at (x, y), by a vector in half samples. It refuses a plane as `sample` does, and a position outside −32,768 to
-/// 32,782.
-pub fn predict_sample(
-    reference: ReferencePlane,
-    samples: &[u8],
+/// The predicted sample at (x, y) of a frame or of a field, by a vector in half samples; of a field, y and the vector count its lines. It
+/// refuses a plane as `sample` does, and a position outside −32,768 to 32,782.
+pub fn predict_sample<'a, R: Reference<'a>>(
+    reference: R,
     x: i32,
     y: i32,
     horizontal: i32,
     vertical: i32,
 ) -> Result<u8, FormingRefusal>
-    ensures answer { result ≡ answered (sample_refusal reference.width reference.height (length samples.now) x y) (formed rounded (sample_at frame reference.width reference.height samples.now) x y horizontal vertical) }
-    ensures refusal { result_err result ≡ sample_refusal reference.width reference.height (length samples.now) x y }
-    ensures value { result_ok result ≡ value_unless (result_err result) (formed rounded (sample_at frame reference.width reference.height samples.now) x y horizontal vertical) }
+    ensures answer { result ≡ answered (sample_refused (R.plane reference) x y) (formed rounded (read_at (R.lines reference) (R.plane reference)) x y horizontal vertical) }
+    ensures refusal { result_err result ≡ sample_refused (R.plane reference) x y }
+    ensures value { result_ok result ≡ value_unless (result_err result) (formed rounded (read_at (R.lines reference) (R.plane reference)) x y horizontal vertical) }
 {
-    predict_sample_of(reference, samples, x, y, horizontal, vertical)
+    let plane = reference.plane();
+    check_sample(plane, x, y)?;
+    if plane.samples.len() == 0 {
+        return Ok(0);
+    }
+    Ok(view_of(reference).form_sample(
+        moved(x, horizontal),
+        moved(y, vertical),
+        neighbour(horizontal, vertical),
+    ))
 }
 
-/// The same from a field: y and the vector count the field's lines.
-pub fn predict_field_sample(
-    reference: FieldReference,
-    samples: &[u8],
-    x: i32,
-    y: i32,
-    horizontal: i32,
-    vertical: i32,
-) -> Result<u8, FormingRefusal>
-    ensures answer { result ≡ answered (sample_refusal reference.plane.width reference.plane.height (length samples.now) x y) (formed rounded (sample_at (field reference.parity) reference.plane.width reference.plane.height samples.now) x y horizontal vertical) }
-    ensures refusal { result_err result ≡ sample_refusal reference.plane.width reference.plane.height (length samples.now) x y }
-    ensures value { result_ok result ≡ value_unless (result_err result) (formed rounded (sample_at (field reference.parity) reference.plane.width reference.plane.height samples.now) x y horizontal vertical) }
-{
-    predict_sample_of(reference, samples, x, y, horizontal, vertical)
-}
-
-/// Writes the predicted block, row after row, to `out`; its first sample is at (top_left_x, top_left_y). It refuses a plane as `sample`
-/// does, a block side outside 1 to 16, a position outside −32,768 to 32,767, and then an output that is not width times height bytes
-/// long; a refusal writes nothing.
-pub fn predict_block(
-    reference: ReferencePlane,
-    samples: &[u8],
+/// Writes the predicted block of a frame or of a field, row after row, to `out`; its first sample is at (top_left_x, top_left_y), and of a
+/// field the position and the vector count its lines. It refuses a plane as `sample` does, a block side outside 1 to 16, a position outside
+/// −32,768 to 32,767, and then an output that is not width times height bytes long; a refusal writes nothing.
+pub fn predict_block<'a, R: Reference<'a>>(
+    reference: R,
     top_left_x: i32,
     top_left_y: i32,
     size: BlockSize,
@@ -284,29 +301,27 @@ pub fn predict_block(
     vertical: i32,
     out: &mut [u8],
 ) -> Result<(), FormingRefusal>
-    ensures answer { result ≡ answered (block_refusal reference.width reference.height (length samples.now) top_left_x top_left_y size.width size.height (length out.old)) tt }
-    ensures buffer { out.new ≡ unless_refused (result_err result) (predicted_block rounded (sample_at frame reference.width reference.height samples.now) size.width size.height top_left_x top_left_y horizontal vertical) out.old }
+    ensures answer { result ≡ answered (block_refused (R.plane reference) top_left_x top_left_y size.width size.height (length out.old)) tt }
+    ensures buffer { let read = read_at (R.lines reference) (R.plane reference) in
+        let block = predicted_block rounded read size.width size.height top_left_x top_left_y horizontal vertical in
+        out.new ≡ unless_refused (result_err result) block out.old }
 {
-    predict_block_of(
-        reference, samples, top_left_x, top_left_y, size, horizontal, vertical, out,
-    )
-}
-
-/// The same from a field: the position and the vector count the field's lines.
-pub fn predict_field_block(
-    reference: FieldReference,
-    samples: &[u8],
-    top_left_x: i32,
-    top_left_y: i32,
-    size: BlockSize,
-    horizontal: i32,
-    vertical: i32,
-    out: &mut [u8],
-) -> Result<(), FormingRefusal>
-    ensures answer { result ≡ answered (block_refusal reference.plane.width reference.plane.height (length samples.now) top_left_x top_left_y size.width size.height (length out.old)) tt }
-    ensures buffer { out.new ≡ unless_refused (result_err result) (predicted_block rounded (sample_at (field reference.parity) reference.plane.width reference.plane.height samples.now) size.width size.height top_left_x top_left_y horizontal vertical) out.old }
-{
-    predict_block_of(
-        reference, samples, top_left_x, top_left_y, size, horizontal, vertical, out,
-    )
+    let plane = reference.plane();
+    check_block(plane, top_left_x, top_left_y, size, out.len())?;
+    if plane.samples.len() == 0 {
+        out.fill(0);
+        return Ok(());
+    }
+    form(
+        view_of(reference),
+        moved(top_left_x, horizontal),
+        moved(top_left_y, vertical),
+        neighbour(horizontal, vertical),
+        Sides {
+            width: size.width,
+            height: size.height,
+        },
+        out,
+    );
+    Ok(())
 }

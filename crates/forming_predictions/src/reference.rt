@@ -1,46 +1,68 @@
-//! A plane's lines: all rows, or those of a field.
+//! What predictions are formed from: a plane as a frame, or one of its fields.
 
-ghost use Rattle.std.specs.Prelude.{◌≡◌, None, ◌<◌, ℤ, length};
-ghost use Rattle.forming_predictions.specs.Lines.{Lines, frame, field, parity_row, sample_at};
-ghost use Rattle.forming_predictions.specs.Refusals.{plane_refusal};
+ghost use Rattle.std.specs.Prelude.{◌≡◌, None, Some, ◌<◌, ℤ};
+ghost use Rattle.forming_predictions.specs.Lines.{Lines, frame, field, parity_row};
+ghost use Rattle.forming_predictions.specs.Planes.{lines_by, read_at, count_of, plane_refused};
 ghost use Rattle.forming_predictions.specs.inner.Blocks.{read};
 ghost use Rattle.forming_predictions.specs.declared.ReferencePlane.{ReferencePlane};
 
 use crate::view::View;
 use crate::{FieldParity, FieldReference, ReferencePlane};
 
-/// What is referred to: a plane as a frame, or one of its fields.
-pub(crate) trait Reference: Copy {
+/// What a prediction is formed from: a plane as a frame, or one of its fields.
+pub trait Reference<'a>: Copy {
+    ghost plane: { Self → ReferencePlane };
+
     ghost lines: { Self → Lines };
 
-    ghost sides: { Self → ReferencePlane };
+    /// The plane that is read.
+    fn plane(self) -> ReferencePlane<'a>
+        ensures { result ≡ plane self };
 
-    fn plane(self) -> ReferencePlane
-        ensures { result ≡ sides self };
-
-    /// The lines of a plane that has samples.
-    fn view<'a>(self, samples: &'a [u8]) -> View<'a>
-        requires { (plane_refusal (sides self).width (sides self).height (length samples.now) ≡ None) × (0 < length samples.now) }
-        ensures { (x : ℤ) (y : ℤ) → read result x y ≡ sample_at (lines self) (sides self).width (sides self).height samples.now x y };
+    /// The field whose lines are read, or none, where all rows are.
+    fn parity(self) -> Option<FieldParity>
+        ensures { lines_by result ≡ lines self };
 }
 
-impl Reference for ReferencePlane {
+impl<'a> Reference<'a> for ReferencePlane<'a> {
+    ghost plane = { λ reference. reference };
+
     ghost lines = { λ reference. frame };
 
-    ghost sides = { λ reference. reference };
-
-    fn plane(self) -> ReferencePlane {
+    fn plane(self) -> ReferencePlane<'a> {
         self
     }
 
-    fn view<'a>(self, samples: &'a [u8]) -> View<'a> {
-        View {
-            samples: samples,
-            width: self.width,
-            first: 0,
-            step: 1,
-            count: self.height,
-        }
+    fn parity(self) -> Option<FieldParity> {
+        None
+    }
+}
+
+impl<'a> Reference<'a> for FieldReference<'a> {
+    ghost plane = { λ reference. reference.plane };
+
+    ghost lines = { λ reference. field reference.parity };
+
+    fn plane(self) -> ReferencePlane<'a> {
+        self.plane
+    }
+
+    fn parity(self) -> Option<FieldParity> {
+        Some(self.parity)
+    }
+}
+
+/// A plane's rows.
+fn frame_view<'a>(plane: ReferencePlane<'a>) -> View<'a>
+    requires { (plane_refused plane ≡ None) × (0 < count_of plane) }
+    ensures { (x : ℤ) (y : ℤ) → read result x y ≡ read_at frame plane.entry x y }
+{
+    View {
+        samples: plane.samples,
+        width: plane.sides.width,
+        first: 0,
+        step: 1,
+        count: plane.sides.height,
     }
 }
 
@@ -54,27 +76,35 @@ fn first_row(parity: FieldParity) -> usize
     }
 }
 
-impl Reference for FieldReference {
-    ghost lines = { λ reference. field reference.parity };
-
-    ghost sides = { λ reference. reference.plane };
-
-    fn plane(self) -> ReferencePlane {
-        self.plane
+/// A field's lines. A field without lines reads the plane's only row.
+fn field_view<'a>(plane: ReferencePlane<'a>, parity: FieldParity) -> View<'a>
+    requires { (plane_refused plane ≡ None) × (0 < count_of plane) }
+    ensures { (x : ℤ) (y : ℤ) → read result x y ≡ read_at (field parity) plane.entry x y }
+{
+    let lines = FieldReference {
+        plane: plane,
+        parity: parity,
+    };
+    let count = lines.height();
+    if count == 0 {
+        return frame_view(plane);
     }
+    View {
+        samples: plane.samples,
+        width: plane.sides.width,
+        first: first_row(parity),
+        step: 2,
+        count: count,
+    }
+}
 
-    /// A field without lines reads the plane's only row.
-    fn view<'a>(self, samples: &'a [u8]) -> View<'a> {
-        let count = self.height();
-        if count == 0 {
-            return self.plane.view(samples);
-        }
-        View {
-            samples: samples,
-            width: self.plane.width,
-            first: first_row(self.parity),
-            step: 2,
-            count: count,
-        }
+/// The lines of a plane that has samples.
+pub(crate) fn view_of<'a, R: Reference<'a>>(reference: R) -> View<'a>
+    requires { (plane_refused (R.plane reference) ≡ None) × (0 < count_of (R.plane reference)) }
+    ensures { (x : ℤ) (y : ℤ) → read result x y ≡ read_at (R.lines reference) (R.plane reference) x y }
+{
+    match reference.parity() {
+        None => frame_view(reference.plane()),
+        Some(parity) => field_view(reference.plane(), parity),
     }
 }

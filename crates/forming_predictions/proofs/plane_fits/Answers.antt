@@ -3,11 +3,11 @@
 use Rattle.forming_predictions.proofs.Refusals.{wide_plane, high_plane, counted_plane}
 use Rattle.forming_predictions.proofs.plane_fits.Goals as goal
 
-pub returns-then-plane-gt-LARGEST_SIDE : goal.returns-then-plane-gt-LARGEST_SIDE
-returns-then-plane-gt-LARGEST_SIDE c = wide_plane _ _ _ c.if-plane-gt-LARGEST_SIDE.true
+pub returns-then-sides-gt-LARGEST_SIDE : goal.returns-then-sides-gt-LARGEST_SIDE
+returns-then-sides-gt-LARGEST_SIDE c = wide_plane _ _ _ c.if-sides-gt-LARGEST_SIDE.true
 
-pub returns-then-plane-gt-LARGEST_SIDE-2 : goal.returns-then-plane-gt-LARGEST_SIDE-2
-returns-then-plane-gt-LARGEST_SIDE-2 c = high_plane _ _ _ c.if-plane-gt-LARGEST_SIDE.false c.if-plane-gt-LARGEST_SIDE-2.true
+pub returns-then-sides-gt-LARGEST_SIDE-2 : goal.returns-then-sides-gt-LARGEST_SIDE-2
+returns-then-sides-gt-LARGEST_SIDE-2 c = high_plane _ _ _ c.if-sides-gt-LARGEST_SIDE.false c.if-sides-gt-LARGEST_SIDE-2.true
 
 pub returns : goal.returns
-returns c = counted_plane _ _ _ c.if-plane-gt-LARGEST_SIDE.false c.if-plane-gt-LARGEST_SIDE-2.false
+returns c = counted_plane _ _ _ c.if-sides-gt-LARGEST_SIDE.false c.if-sides-gt-LARGEST_SIDE-2.false

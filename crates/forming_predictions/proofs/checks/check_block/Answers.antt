@@ -9,6 +9,7 @@ use Rattle.combine_predictions.proofs.Answers.{refused_first, rest_decides, is_a
 use Rattle.forming_predictions.specs.declared.FormingRefusal.{FormingRefusal}
 use Rattle.forming_predictions.specs.declared.FormingRefusal.TheVariants.{OutsideDomain, WrongLength}
 use Rattle.forming_predictions.specs.Refusals.{plane_fits, position_fits, block_side_fits, last_block, block_refusal}
+use Rattle.forming_predictions.specs.Planes.{count_of}
 use Rattle.forming_predictions.proofs.Refusals.{product_fits, sides_fit, block_cause}
 use Rattle.forming_predictions.proofs.checks.check_block.Goals as goal
 
@@ -35,27 +36,27 @@ whole w h n x y bw bh o e = e ∙ ap (λ (m : Option FormingRefusal). answered m
 
 pub returns-in_err-check_domain : goal.returns-in_err-check_domain
 returns-in_err-check_domain c =
-    let d = domain _ _ _ _ _ _ _ c.ranges.x c.ranges.y c.plane_fits.ensures c.block_side_fits.ensures c.block_side_fits-2.ensures c.position_fits.ensures c.position_fits-2.ensures c.in_err-check_domain.ensures in
+    let d = domain _ _ _ _ _ _ _ c.ranges.x c.ranges.y c.is_whole.ensures c.block_side_fits.ensures c.block_side_fits-2.ensures c.position_fits.ensures c.position_fits-2.ensures c.in_err-check_domain.ensures in
     let e : c.from_residual.result ≡ Err c.in_err-check_domain.field-0.0 = search rules in
     whole _ _ _ _ _ _ _ _ (e ∙ refused_first _ _ _ _ d)
 
 pub overflow_mul-size : goal.overflow_mul-size
 overflow_mul-size c =
     let a = c.args in
-    let d = domain _ _ _ _ _ _ _ c.ranges.x c.ranges.y c.plane_fits.ensures c.block_side_fits.ensures c.block_side_fits-2.ensures c.position_fits.ensures c.position_fits-2.ensures c.in_ok-check_domain.ensures in
-    let sides = sides_fit (plane_fits a.plane.width a.plane.height a.count) (position_fits last_block a.x && position_fits last_block a.y) a.size.width a.size.height (is_accepted _ _ d) in
+    let d = domain _ _ _ _ _ _ _ c.ranges.x c.ranges.y c.is_whole.ensures c.block_side_fits.ensures c.block_side_fits-2.ensures c.position_fits.ensures c.position_fits-2.ensures c.in_ok-check_domain.ensures in
+    let sides = sides_fit (plane_fits a.plane.sides.width a.plane.sides.height (count_of a.plane)) (position_fits last_block a.x && position_fits last_block a.y) a.size.width a.size.height (is_accepted _ _ d) in
     product_fits _ _ (omega (arith, sides)) (omega (arith, sides))
 
 pub returns-then-room-size : goal.returns-then-room-size
 returns-then-room-size c =
     let a = c.args in
-    let d = domain _ _ _ _ _ _ _ c.ranges.x c.ranges.y c.plane_fits.ensures c.block_side_fits.ensures c.block_side_fits-2.ensures c.position_fits.ensures c.position_fits-2.ensures c.in_ok-check_domain.ensures in
-    whole a.plane.width a.plane.height a.count a.x a.y a.size.width a.size.height a.room
+    let d = domain _ _ _ _ _ _ _ c.ranges.x c.ranges.y c.is_whole.ensures c.block_side_fits.ensures c.block_side_fits-2.ensures c.position_fits.ensures c.position_fits-2.ensures c.in_ok-check_domain.ensures in
+    whole a.plane.sides.width a.plane.sides.height (count_of a.plane) a.x a.y a.size.width a.size.height a.room
     (rest_decides _ (in_room a.size.width a.size.height a.room) _ _ d (rw (ne_eqb a.room (a.size.width * a.size.height) c.if-room-size.true) refl))
 
 pub returns : goal.returns
 returns c =
     let a = c.args in
-    let d = domain _ _ _ _ _ _ _ c.ranges.x c.ranges.y c.plane_fits.ensures c.block_side_fits.ensures c.block_side_fits-2.ensures c.position_fits.ensures c.position_fits-2.ensures c.in_ok-check_domain.ensures in
-    whole a.plane.width a.plane.height a.count a.x a.y a.size.width a.size.height a.room
+    let d = domain _ _ _ _ _ _ _ c.ranges.x c.ranges.y c.is_whole.ensures c.block_side_fits.ensures c.block_side_fits-2.ensures c.position_fits.ensures c.position_fits-2.ensures c.in_ok-check_domain.ensures in
+    whole a.plane.sides.width a.plane.sides.height (count_of a.plane) a.x a.y a.size.width a.size.height a.room
     (rest_decides _ (in_room a.size.width a.size.height a.room) _ _ d (rw (eq-eqb a.room (a.size.width * a.size.height) c.if-room-size.false) refl))

@@ -5,7 +5,7 @@ use mir.Facts.{to_z-of_z}
 use Rattle.forming_predictions.specs.Splitting.{floor_half}
 use Rattle.forming_predictions.proofs.Splitting.{floor_fits}
 use Rattle.forming_predictions.proofs.Forming.{moved_reach}
-use Rattle.forming_predictions.proofs.calls.moved.Goals as goal
+use Rattle.forming_predictions.proofs.block.moved.Goals as goal
 
 -- the sum that the code makes
 sum : (p v i : ℤ) → FitsSigned w32 p → FitsSigned w32 v → i ≡ floor_half (to_z w32 (of_z w32 v))

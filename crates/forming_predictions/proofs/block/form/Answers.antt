@@ -5,7 +5,7 @@ use Rattle.laws.proofs.Tests.{both}
 use Rattle.laws.proofs.Bits.{cast_ok, cast_val, up_is}
 use Rattle.forming_predictions.proofs.Eights.{eights_of}
 use Rattle.forming_predictions.proofs.Reading.{inside_at}
-use Rattle.forming_predictions.proofs.calls.form.Goals as goal
+use Rattle.forming_predictions.proofs.block.form.Goals as goal
 
 pub overflow_cast-x : goal.overflow_cast-x
 overflow_cast-x c =

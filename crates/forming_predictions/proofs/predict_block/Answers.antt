@@ -1,0 +1,47 @@
+-- A plane without samples gives zeros, and another one is read.
+-- Assumes nothing.
+use Rattle.std.proofs.Common.{refl, ◌∙◌, rules, arith, w32}
+use mir.Facts.{to_z-of_z}
+use Rattle.laws.proofs.Bits.{back}
+use Rattle.forming_predictions.specs.inner.Blocks.{read}
+use Rattle.forming_predictions.proofs.Refusals.{plane_none}
+use Rattle.forming_predictions.proofs.Reading.{same_count, block_accepted, at_moved, at_half}
+use Rattle.forming_predictions.proofs.Forming.{empty_block, view_block}
+use Rattle.forming_predictions.proofs.predict_block.Goals as goal
+
+pub returns-then-plane-eq0-clause-buffer : goal.returns-then-plane-eq0-clause-buffer
+returns-then-plane-eq0-clause-buffer g c =
+    let r = block_accepted c.plane-plane.ensures c.ranges.top_left_x c.ranges.top_left_y c.in_ok-check_block.ensures in
+    c.fill.ensures.after (λ y e. search rules) ∙ empty_block _ _ _ _ _ _ _ _ _ _ _ (omega (arith, r.plane.count, same_count c.plane-plane.ensures)) r.room
+
+pub view_of-requires : goal.view_of-requires
+view_of-requires g c = λ k. ((refl, tt), (plane_none (block_accepted c.plane-plane.ensures c.ranges.top_left_x c.ranges.top_left_y c.in_ok-check_block.ensures).plane, omega (arith, same_count c.plane-plane.ensures)))
+
+pub moved-requires : goal.moved-requires
+moved-requires g c = rw (to_z-of_z c.ranges.top_left_x) (block_accepted c.plane-plane.ensures c.ranges.top_left_x c.ranges.top_left_y c.in_ok-check_block.ensures).at_x
+
+pub moved-requires-2 : goal.moved-requires-2
+moved-requires-2 g c = rw (to_z-of_z c.ranges.top_left_y) (block_accepted c.plane-plane.ensures c.ranges.top_left_x c.ranges.top_left_y c.in_ok-check_block.ensures).at_y
+
+pub invariant_of-form : goal.invariant_of-form
+invariant_of-form g c = record { fits = (block_accepted c.plane-plane.ensures c.ranges.top_left_x c.ranges.top_left_y c.in_ok-check_block.ensures).sides }
+
+pub form-requires : goal.form-requires
+form-requires g c = (
+  rw (back w32 c.moved.result c.moved.type_inv) c.moved.ensures.1,
+  rw (back w32 c.moved-2.result c.moved-2.type_inv) c.moved-2.ensures.1,
+  (block_accepted c.plane-plane.ensures c.ranges.top_left_x c.ranges.top_left_y c.in_ok-check_block.ensures).room,
+)
+
+pub returns-clause-buffer : goal.returns-clause-buffer
+returns-clause-buffer g c =
+    let a = c.args in
+    let r = c.ranges in
+    (rw (
+      at_moved r.top_left_x r.horizontal c.moved.type_inv c.moved.ensures.0,
+      at_moved r.top_left_y r.vertical c.moved-2.type_inv c.moved-2.ensures.0,
+      at_half r.horizontal c.neighbour.ensures.0,
+      at_half r.vertical c.neighbour.ensures.1,
+    )
+    at c.form.ensures)
+    ∙ view_block (read c.view_of.result) _ c.view_of.ensures a.size.width a.size.height a.top_left_x a.top_left_y a.horizontal a.vertical
