@@ -4,6 +4,7 @@
 pub mod Splitting
 pub mod Undivided
 pub mod Lines
+pub mod Parities
 pub mod Means
 pub mod Forming
 pub mod Refusals

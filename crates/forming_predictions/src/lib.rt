@@ -14,6 +14,7 @@ ghost use Rattle.forming_predictions.specs.Planes.{read_at, plane_refused, sampl
 
 use block::{form, moved, neighbour};
 use checks::{check_block, check_plane, check_sample};
+pub use parity::NoMeaning;
 pub use reference::Reference;
 use reference::view_of;
 use view::Sides;
@@ -24,6 +25,7 @@ mod edges;
 mod inside;
 mod means;
 mod narrow;
+mod parity;
 mod reference;
 mod view;
 

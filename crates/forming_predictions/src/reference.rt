@@ -1,7 +1,7 @@
 //! What predictions are formed from: a plane as a frame, or one of its fields.
 
 ghost use Rattle.std.specs.Prelude.{◌≡◌, None, Some, ◌<◌, ℤ};
-ghost use Rattle.forming_predictions.specs.Lines.{Lines, frame, field, parity_row};
+ghost use Rattle.forming_predictions.specs.Lines.{Lines, frame, field};
 ghost use Rattle.forming_predictions.specs.Planes.{lines_by, read_at, count_of, plane_refused};
 ghost use Rattle.forming_predictions.specs.inner.Blocks.{read};
 ghost use Rattle.forming_predictions.specs.declared.ReferencePlane.{ReferencePlane};
@@ -66,33 +66,23 @@ fn frame_view<'a>(plane: ReferencePlane<'a>) -> View<'a>
     }
 }
 
-/// The row that is a field's line 0.
-fn first_row(parity: FieldParity) -> usize
-    ensures { result ≡ parity_row parity }
-{
-    match parity {
-        FieldParity::Top => 0,
-        FieldParity::Bottom => 1,
-    }
-}
-
 /// A field's lines. A field without lines reads the plane's only row.
 fn field_view<'a>(plane: ReferencePlane<'a>, parity: FieldParity) -> View<'a>
     requires { (plane_refused plane ≡ None) × (0 < count_of plane) }
     ensures { (x : ℤ) (y : ℤ) → read result x y ≡ read_at (field parity) plane.entry x y }
 {
-    let lines = FieldReference {
+    let count = FieldReference {
         plane: plane,
         parity: parity,
-    };
-    let count = lines.height();
+    }
+    .height();
     if count == 0 {
         return frame_view(plane);
     }
     View {
         samples: plane.samples,
         width: plane.sides.width,
-        first: first_row(parity),
+        first: parity.into(),
         step: 2,
         count: count,
     }

@@ -8,7 +8,8 @@ use borrow.Author.Tests.{ne_eqb}
 use Rattle.std.specs.Prelude.{Some, None}
 use Rattle.forming_predictions.specs.declared.FieldParity.{FieldParity}
 use Rattle.forming_predictions.specs.declared.FieldParity.TheVariants.{Top, Bottom}
-use Rattle.pmv.specs.Kinds.{component_number, direction_number, direction_from, index_number, index_from, format_number, format_from, structure_number, structure_from, type_number, type_from, chroma_number, chroma_from, parity_from, flag_from}
+use Rattle.pmv.specs.Kinds.{component_number, direction_number, direction_from, index_number, index_from, format_number, format_from, structure_number, structure_from, type_number, type_from, chroma_number, chroma_from, flag_from}
+use Rattle.forming_predictions.specs.Parities.{parity_from}
 use Rattle.forming_predictions.specs.Lines.{parity_row}
 use Rattle.pmv.specs.declared.kinds.Component.{Component}
 use Rattle.pmv.specs.declared.kinds.Component.TheVariants.{Horizontal, Vertical}

@@ -1,13 +1,10 @@
 -- The kinds that this layer's calls choose by. docs/SCOPE.md counts them from 0 in the order of the Rust's enums where they cross to C, and
 -- any other number has no meaning. `x_number` is the number of a kind, `x_from` the kind of a number, if there is one; proofs/Numbers.antt
--- shows that each undoes the other. Component and PictureCodingType cross in no C call, and have no `x_from`; parities and flags are only read,
--- and have no `x_number`.
+-- shows that each undoes the other. Component and PictureCodingType cross in no C call, and have no `x_from`; flags are only read, and have no
+-- `x_number`. Those of parities are forming_predictions'.
 -- The standard has the kinds: r, s and t in Table 7-7, the motion types in Tables 6-17 and 6-18, and picture_structure, picture_coding_type and
 -- chroma_format, whose codes are others.
 use Rattle.std.specs.Prelude.{Bool, true, false, cond, ℕ, eqb, Option, Some, None}
-use Rattle.forming_predictions.specs.declared.FieldParity.{FieldParity}
-use Rattle.forming_predictions.specs.declared.FieldParity.TheVariants.{Top, Bottom}
-use Rattle.pmv.specs.declared.kinds.NoMeaning.{NoMeaning}
 use Rattle.pmv.specs.declared.kinds.Component.{Component}
 use Rattle.pmv.specs.declared.kinds.Direction.{Direction}
 use Rattle.pmv.specs.declared.kinds.VectorIndex.{VectorIndex}
@@ -103,23 +100,12 @@ chroma_from n =
     (cond (eqb n 2) (Some ChromaFormat.Yuv444)
     None))
 
--- the parity of a field
-abbrev pub parity_from : ℕ → Option FieldParity
-parity_from n =
-    cond (eqb n 0) (Some Top)
-    (cond (eqb n 1) (Some Bottom)
-    None)
-
 -- yes or no
 abbrev pub flag_from : ℕ → Option Bool
 flag_from n =
     cond (eqb n 0) (Some false)
     (cond (eqb n 1) (Some true)
     None)
-
--- what is answered to a number without a meaning
-abbrev pub no_meaning : NoMeaning
-no_meaning = record {}
 
 -- ---- tests
 

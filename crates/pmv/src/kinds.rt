@@ -1,23 +1,10 @@
 //! The kinds of things that choose how a vector is reconstructed and what becomes of the predictors. docs/SCOPE.md counts each from 0 in
 //! the order of its values; these are not the codes of the stream.
 ghost use Rattle.std.specs.Prelude.{◌≡◌, ok_or};
-ghost use Rattle.pmv.specs.Kinds.{component_number, direction_number, direction_from, index_number, index_from, format_number, format_from, structure_number, structure_from, type_number, type_from, coding_number, chroma_number, chroma_from, parity_from, flag_from, no_meaning, is_vertical, is_field_format, is_frame_picture, is_inter_picture};
+ghost use Rattle.forming_predictions.specs.Parities.{no_meaning};
+ghost use Rattle.pmv.specs.Kinds.{component_number, direction_number, direction_from, index_number, index_from, format_number, format_from, structure_number, structure_from, type_number, type_from, coding_number, chroma_number, chroma_from, flag_from, is_vertical, is_field_format, is_frame_picture, is_inter_picture};
 
-use forming_predictions::FieldParity;
-use std::error::Error;
-use std::fmt;
-
-/// A number that none of these kinds has.
-#[derive(Clone, Copy, Debug, PartialEq, Eq)]
-pub struct NoMeaning;
-
-impl fmt::Display for NoMeaning {
-    fn fmt<W: fmt::Write>(&self, f: &mut fmt::Formatter<W>) -> fmt::Result {
-        f.write_str("the number has no meaning")
-    }
-}
-
-impl Error for NoMeaning {}
+use forming_predictions::NoMeaning;
 
 /// `t` of Table 7-7.
 #[derive(Clone, Copy, Debug, PartialEq, Eq)]
@@ -230,17 +217,6 @@ impl TryFrom<u32> for ChromaFormat {
             2 => Ok(ChromaFormat::Yuv444),
             _ => Err(NoMeaning),
         }
-    }
-}
-
-/// The parity with this number: the top field's is 0. A function, since neither FieldParity nor TryFrom is of this crate.
-pub fn parity_from_number(number: u32) -> Result<FieldParity, NoMeaning>
-    ensures { result ≡ ok_or (parity_from number) no_meaning }
-{
-    match number {
-        0 => Ok(FieldParity::Top),
-        1 => Ok(FieldParity::Bottom),
-        _ => Err(NoMeaning),
     }
 }
 

@@ -15,9 +15,9 @@ returns-then-count-eq0 c =
 pub invariant_of-result : goal.invariant_of-result
 invariant_of-result c =
     let reads = field_reads c.args.parity c.args.plane.sides.height _ c.height-count.ensures c.if-count-eq0.false in
-    record { fits = rw c.first_row.ensures (rows_view reads _ (plane_right _ _ _ c.requires.0) c.requires.1) }
+    record { fits = rw c.into.ensures (rows_view reads _ (plane_right _ _ _ c.requires.0) c.requires.1) }
 
 pub returns : goal.returns
 returns c =
     let reads = field_reads c.args.parity c.args.plane.sides.height _ c.height-count.ensures c.if-count-eq0.false in
-    λ x y. rw c.first_row.ensures (rows_read reads _ (plane_right _ _ _ c.requires.0) c.requires.1 x y)
+    λ x y. rw c.into.ensures (rows_read reads _ (plane_right _ _ _ c.requires.0) c.requires.1 x y)
