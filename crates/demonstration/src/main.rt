@@ -6,7 +6,7 @@ use combine_predictions::{
     PredictionDirection, average_predictions, combine_directional_predictions,
 };
 use forming_predictions::{
-    BlockSize, FieldParity, FieldReference, ReferencePlane, predict_block, predict_field_block,
+    BlockSize, FieldParity, FieldReference, PlaneSides, Reference, ReferencePlane, predict_block,
 };
 use pmv::chroma::scale_chroma;
 use pmv::kinds::{
@@ -130,16 +130,15 @@ fn answer<R: Into<u32>>(rt: &impl Print, a: Result<(), R>, out: &[u8]) -> io::Re
 }
 
 /// A plane of eight columns and six rows.
-const PLANE: ReferencePlane = ReferencePlane {
-    width: 8,
-    height: 6,
-};
-
-/// Its bottom field.
-const BOTTOM: FieldReference = FieldReference {
-    plane: PLANE,
-    parity: FieldParity::Bottom,
-};
+fn plane<'a>(samples: &'a [u8]) -> ReferencePlane<'a> {
+    ReferencePlane {
+        sides: PlaneSides {
+            width: 8,
+            height: 6,
+        },
+        samples: samples,
+    }
+}
 
 /// Four columns and two rows.
 const SIZE: BlockSize = BlockSize {
@@ -148,14 +147,14 @@ const SIZE: BlockSize = BlockSize {
 };
 
 /// The block at (2, 1), by a vector in half samples.
-fn predict(
+fn predict<'a, R: Reference<'a>>(
     rt: &impl Print,
-    plane: &[u8],
+    reference: R,
     horizontal: i32,
     vertical: i32,
     out: &mut [u8],
 ) -> io::Result<()> {
-    let a = predict_block(PLANE, plane, 2, 1, SIZE, horizontal, vertical, out);
+    let a = predict_block(reference, 2, 1, SIZE, horizontal, vertical, out);
     answer(rt, a, out)
 }
 
@@ -171,18 +170,21 @@ fn form(rt: &impl Print) -> io::Result<()> {
         "a plane of 8 columns; row r, column c holds 10 (c + 1) + r; blocks of 4 columns and 2 rows"
     )?;
     print!(rt; "at (2, 1), vector (0, 0)               ")?;
-    predict(rt, &rows, 0, 0, &mut block)?;
+    predict(rt, plane(&rows), 0, 0, &mut block)?;
     print!(rt; "at (2, 1), vector (-3, 1)              ")?;
-    predict(rt, &rows, -3, 1, &mut block)?;
+    predict(rt, plane(&rows), -3, 1, &mut block)?;
     print!(rt; "at (2, 1), vector (7, 0), past an edge ")?;
-    predict(rt, &rows, 7, 0, &mut block)?;
+    predict(rt, plane(&rows), 7, 0, &mut block)?;
     print!(rt; "bottom field, at (2, 1), vector (0, 1) ")?;
-    let a = predict_field_block(BOTTOM, &rows, 2, 1, SIZE, 0, 1, &mut block);
-    answer(rt, a, &block)?;
+    let bottom = FieldReference {
+        plane: plane(&rows),
+        parity: FieldParity::Bottom,
+    };
+    predict(rt, bottom, 0, 1, &mut block)?;
     print!(rt; "a plane of 47 samples                  ")?;
-    predict(rt, &rows[..47], 0, 0, &mut block)?;
+    predict(rt, plane(&rows[..47]), 0, 0, &mut block)?;
     print!(rt; "an output of 3                         ")?;
-    predict(rt, &rows, 0, 0, &mut short)
+    predict(rt, plane(&rows), 0, 0, &mut short)
 }
 
 fn average(rt: &impl Print, forward: &[u8], backward: &[u8], out: &mut [u8]) -> io::Result<()> {

@@ -70,7 +70,7 @@ pub(crate) fn form_fetched<const N: usize, const ROOM: usize>(
     }
     let height = size.height + to.below;
     let n = N * height;
-    let mut room = [0u8; ROOM];
+    let mut room = [0u8; ROOM]; // an array: no heap in the layers
     let whole = &mut room[..];
     let region = &mut whole[0..n];
     fetch_lines::<N>(view, &columns, y, height, region);

@@ -1,5 +1,6 @@
 //! Rows of predicted samples, out of two rows of samples. The two rows, the column and the step to the right stay four parameters: a
-//! struct of them would know that the rows are of one length, and each function would still ask for the columns that it reads.
+//! struct of them would know that the rows are of one length, and each function would still ask for the columns that it reads. Local rows are
+//! arrays: there is no heap in the layers.
 
 ghost use Rattle.std.specs.Prelude.{◌≡◌, ℕ, ◌+◌, ◌≤◌, length, get_or};
 ghost use Rattle.laws.specs.Tabulate.{tabulate};
@@ -87,7 +88,8 @@ pub(crate) fn sixteen_of_pairs(
     }
 }
 
-/// Eight means of four samples, by their sums, through a local array as in `two_row`.
+/// Eight means of four samples, by their sums, through a local array as in `two_row`. Sixteen go another way, the faster one there: the two are
+/// no one function over the number.
 pub(crate) fn four_eight(row: &[u8], below: &[u8], x: usize, dx: usize, out: &mut [u8])
     requires { RowFits row.now below.now x dx 8 × (length out.old ≡ 8) }
     ensures { out.new ≡ tabulate 8 (four_of row.now below.now x dx) }
