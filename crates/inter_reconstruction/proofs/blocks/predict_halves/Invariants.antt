@@ -3,7 +3,7 @@ use Rattle.std.proofs.Common.{ℕ, ◌*◌, get_or}
 use Rattle.laws.proofs.Rows.{RowsFilled}
 use Rattle.inter_reconstruction.specs.Frames.{read_plane}
 use Rattle.inter_reconstruction.specs.inner.Blocks.{field_halves}
-use Rattle.inter_reconstruction.proofs.macroblock.predict_halves.Given as goal
+use Rattle.inter_reconstruction.proofs.blocks.predict_halves.Given as goal
 
 abbrev pub invariant-loop-f : goal.invariant-loop-f
 invariant-loop-f l =

@@ -15,7 +15,7 @@ use Rattle.inter_reconstruction.specs.declared.motion.FieldVectorPair.{FieldVect
 use Rattle.inter_reconstruction.specs.Frames.{PlaneReading, read_plane}
 use Rattle.inter_reconstruction.specs.inner.Blocks.{field_halves}
 use Rattle.inter_reconstruction.proofs.Rectangles.{rectangle_length}
-use Rattle.inter_reconstruction.proofs.macroblock.predict_halves.Goals as goal
+use Rattle.inter_reconstruction.proofs.blocks.predict_halves.Goals as goal
 
 -- both blocks, cell by cell
 module _ (read : PlaneReading) (pair : FieldVectorPair) (w h x line : ℕ) where
