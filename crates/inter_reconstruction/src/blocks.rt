@@ -5,7 +5,6 @@ ghost use Rattle.laws.specs.Tabulate.{tabulate};
 ghost use Rattle.forming_predictions.specs.Means.{rounded};
 ghost use Rattle.inter_reconstruction.specs.declared.motion.DirectionMotion.TheVariants.{Frame, Field};
 ghost use Rattle.inter_reconstruction.specs.declared.motion.Uses.TheVariants.{Both};
-ghost use Rattle.inter_reconstruction.specs.Motion.{field_vector_of};
 ghost use Rattle.inter_reconstruction.specs.Frames.{read_plane};
 ghost use Rattle.inter_reconstruction.specs.Macroblock.{field_sample, direction_sample, used_sample, rectangle};
 ghost use Rattle.inter_reconstruction.specs.inner.Blocks.{PlaneFits, BlockAt, FieldRows, HalvesAt, field_halves, interleaved_cell, forward_bytes};
@@ -85,7 +84,7 @@ fn predict_lines(
     );
 }
 
-/// A row of 8 or 16, by eights: a copy of a fixed length is one load and one store, and no call.
+/// A row of 8 or 16, by eights: a copy of a fixed length is one load and one store, and no call. It is a part of a local block: fixed memory.
 fn copy_row(from: &[u8], out: &mut [u8])
     requires { (length out.old ≡ length from.now) × (0 < length out.old) × (length out.old ≤ 16) × (length out.old % 8 ≡ 0) }
     ensures { out.new ≡ from.now }
@@ -112,16 +111,6 @@ fn interleave(halves: &[u8], width: usize, half: usize, out: &mut [u8])
     }
 }
 
-/// The vector of a macroblock's field, the top one for 0.
-fn vector_of(pair: FieldVectorPair, field: usize) -> FieldVector
-    ensures { result ≡ field_vector_of pair field }
-{
-    if field == 0 {
-        return pair.top;
-    }
-    pair.bottom
-}
-
 /// Both fields' lines, one block after the other. As there is one call for both, it is inlined, and what is the same for both fields is tested
 /// once.
 fn predict_halves(
@@ -138,19 +127,10 @@ fn predict_halves(
     ensures { out.new ≡ field_halves (read_plane plane samples.now) pair width height x line }
 {
     let n = width * height;
-    for f in 0..2 {
+    for (f, &u) in [pair.top, pair.bottom].iter().enumerate() {
         let a = f * n;
         let e = a + n;
-        predict_lines(
-            plane,
-            samples,
-            x,
-            line,
-            width,
-            height,
-            vector_of(pair, f),
-            &mut out[a..e],
-        );
+        predict_lines(plane, samples, x, line, width, height, u, &mut out[a..e]);
     }
 }
 
@@ -168,7 +148,7 @@ fn predict_fields(
     requires { PlaneFits plane samples.now × BlockAt x y width height (length out.old) × FieldRows y height }
     ensures { out.new ≡ rectangle width height (direction_sample rounded (read_plane plane samples.now) (Field pair)) x y }
 {
-    // fixed memory: no heap in the layers, and no block is larger
+    // fixed memory: no heap in the layers, and no block is larger than 256
     let mut halves = [0u8; 256];
     let n = width * height;
     let half = height / 2;
@@ -246,6 +226,7 @@ pub(crate) fn predict_two(
     requires { PlaneFits forward forward_samples.now × PlaneFits backward backward_samples.now × BlockAt x y width height (length out.old) × FieldRows y height }
     ensures { out.new ≡ rectangle width height (used_sample rounded (read_plane forward forward_samples.now) (read_plane backward backward_samples.now) (Both forward_motion backward_motion)) x y }
 {
+    // fixed memory, as above
     let mut first = [0u8; 256];
     let mut second = [0u8; 256];
     let n = width * height;

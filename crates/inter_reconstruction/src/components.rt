@@ -91,6 +91,7 @@ pub(crate) fn predict_from_one(
 {
     let size = chroma_mb_extent(chroma_format);
     let n = size.width * size.height;
+    // fixed memory: no heap in the layers, and no block is larger than 256
     let mut y_block = [0u8; 256];
     let mut cb_block = [0u8; 256];
     let mut cr_block = [0u8; 256];
