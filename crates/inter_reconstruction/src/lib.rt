@@ -6,7 +6,11 @@
 pub mod frames;
 /// The motion of a macroblock, and which directions it is predicted from.
 pub mod motion;
-/// The prediction of a macroblock: the block of a component, the three components, the calls.
+/// The block of one component.
+mod blocks;
+/// The three components of a macroblock.
+mod components;
+/// The prediction of a macroblock: the calls, with all that they refuse.
 pub mod macroblock;
 /// Copies of samples.
 mod samples;

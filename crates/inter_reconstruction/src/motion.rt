@@ -49,7 +49,7 @@ pub enum DirectionMotion {
     Field(FieldVectorPair),
 }
 
-/// The directions that a macroblock is predicted from, each with its motion.
+/// The directions that a macroblock is predicted from, each with its motion: kinds of directions, no steps.
 #[derive(Clone, Copy, Debug, PartialEq, Eq)]
 pub enum Uses {
     Forward(DirectionMotion),
@@ -57,7 +57,7 @@ pub enum Uses {
     Both(DirectionMotion, DirectionMotion),
 }
 
-/// The directions that a macroblock is predicted from, without their motion.
+/// The same without their motion: what an accepted call tells.
 #[derive(Clone, Copy, Debug, PartialEq, Eq)]
 pub enum UsedDirections {
     Forward,

@@ -5,7 +5,7 @@ ghost use Rattle.combine_predictions.specs.Refusals.{answered, unless_refused};
 ghost use Rattle.inter_reconstruction.specs.Components.{ColourComponent, columns_of, lines_of};
 ghost use Rattle.inter_reconstruction.specs.Frames.{samples_of, lengths_of};
 ghost use Rattle.inter_reconstruction.specs.Placing.{place_at, stored, placed, whole_side, well_formed, cell_inside, picture_fits, placing_number, placing_refusal};
-ghost use Rattle.inter_reconstruction.specs.inner.Placing.{Room, Placeable, sides_are};
+ghost use Rattle.inter_reconstruction.specs.inner.Placing.{Room, Placeable};
 
 use crate::frames::{FrameBuffer, FrameGeometry, chroma_mb_extent};
 use crate::macroblock::planes_fit;
@@ -142,25 +142,18 @@ fn chroma_sides(g: FrameGeometry) -> ReferencePlane
     }
 }
 
-fn sides_are(plane: ReferencePlane, width: usize, height: usize) -> bool
-    ensures { result ≡ sides_are plane width height }
-{
-    (plane.width == width) & (plane.height == height)
-}
-
 /// The picture's sides are whole, and its planes fit them.
 fn well_formed(picture: FrameBuffer) -> bool
     ensures { result ≡ well_formed picture }
 {
     let g = picture.geometry;
+    let luma = ReferencePlane {
+        width: g.width,
+        height: g.height,
+    };
     let chroma = chroma_sides(g);
-    let y = picture.y;
-    let cb = picture.cb;
-    let cr = picture.cr;
     (whole_side(g.width) & whole_side(g.height))
-        & (sides_are(y, g.width, g.height)
-            & (sides_are(cb, chroma.width, chroma.height)
-                & sides_are(cr, chroma.width, chroma.height)))
+        & ((picture.y == luma) & ((picture.cb == chroma) & (picture.cr == chroma)))
 }
 
 fn cell_inside(g: FrameGeometry, mb_col: usize, mb_row: usize) -> bool

@@ -1,6 +1,5 @@
 -- What the functions that place ask. For private contracts alone.
-use Rattle.std.specs.Prelude.{◌≡◌, Bool, true, ◌&&◌, ℕ, ◌+◌, ◌*◌, ◌≤◌, eqb}
-use Rattle.forming_predictions.specs.declared.ReferencePlane.{ReferencePlane}
+use Rattle.std.specs.Prelude.{◌≡◌, true, ℕ, ◌+◌, ◌*◌, ◌≤◌}
 use Rattle.inter_reconstruction.specs.Components.{ColourComponent, macroblock_bytes}
 use Rattle.inter_reconstruction.specs.Placing.{picture_fits, well_formed, cell_inside}
 use Rattle.inter_reconstruction.specs.declared.frames.FrameBuffer.{FrameBuffer}
@@ -20,6 +19,3 @@ pub record Placeable (p : FrameBuffer) (lengths : ColourComponent → ℕ) (byte
   pub whole : well_formed p ≡ true
   pub cell : cell_inside p.geometry col row ≡ true
   pub count : bytes ≡ macroblock_bytes p.geometry.chroma_format
-
-abbrev pub sides_are : ReferencePlane → ℕ → ℕ → Bool
-sides_are p w h = eqb p.width w && eqb p.height h

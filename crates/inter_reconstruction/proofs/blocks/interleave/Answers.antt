@@ -7,7 +7,7 @@ use Rattle.laws.proofs.Rows.{row_in, rows_none, rows_part, rows_step}
 use Rattle.inter_reconstruction.specs.inner.Blocks.{field_row, interleaved_cell}
 use Rattle.inter_reconstruction.proofs.Begun.{part_tab}
 use Rattle.inter_reconstruction.proofs.Rectangles.{field_row_in}
-use Rattle.inter_reconstruction.proofs.macroblock.interleave.Goals as goal
+use Rattle.inter_reconstruction.proofs.blocks.interleave.Goals as goal
 
 pub loop-r-init : goal.loop-r-init
 loop-r-init c = rows_none _ _ _ _ c.requires.3

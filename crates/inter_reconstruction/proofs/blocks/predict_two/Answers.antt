@@ -6,7 +6,7 @@ use Rattle.inter_reconstruction.specs.Frames.{read_plane}
 use Rattle.inter_reconstruction.specs.Macroblock.{direction_sample, used_sample}
 use Rattle.inter_reconstruction.proofs.Begun.{blank, front_is}
 use Rattle.inter_reconstruction.proofs.Rectangles.{rectangle_length, rectangle_ext, averaged_is}
-use Rattle.inter_reconstruction.proofs.macroblock.predict_two.Goals as goal
+use Rattle.inter_reconstruction.proofs.blocks.predict_two.Goals as goal
 
 pub returns : goal.returns
 unfolding used_sample

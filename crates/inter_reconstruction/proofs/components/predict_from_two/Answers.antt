@@ -8,7 +8,7 @@ use Rattle.inter_reconstruction.specs.declared.motion.Uses.TheVariants.{Both}
 use Rattle.inter_reconstruction.proofs.Begun.{begun_first, begun_rest}
 use Rattle.inter_reconstruction.proofs.Cells.{luma_at, luma_rows, chroma_total, chroma_length, parts_are}
 use Rattle.inter_reconstruction.proofs.Rectangles.{rectangle_length}
-use Rattle.inter_reconstruction.proofs.macroblock.predict_from_two.Goals as goal
+use Rattle.inter_reconstruction.proofs.components.predict_from_two.Goals as goal
 
 pub predict_two-requires : goal.predict_two-requires
 predict_two-requires c =

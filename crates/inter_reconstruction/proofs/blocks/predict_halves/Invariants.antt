@@ -3,8 +3,8 @@ use Rattle.std.proofs.Common.{ℕ, ◌*◌, get_or}
 use Rattle.laws.proofs.Rows.{RowsFilled}
 use Rattle.inter_reconstruction.specs.Frames.{read_plane}
 use Rattle.inter_reconstruction.specs.inner.Blocks.{field_halves}
-use Rattle.inter_reconstruction.proofs.macroblock.predict_halves.Given as goal
+use Rattle.inter_reconstruction.proofs.blocks.predict_halves.Given as goal
 
 abbrev pub invariant-loop-f : goal.invariant-loop-f
 invariant-loop-f l =
-    RowsFilled (λ (k : ℕ). get_or (field_halves (read_plane l.plane l.samples) l.pair l.width l.height l.x l.line) k 0) l.initial.out (l.width * l.height) 2 l.f l.out
+    RowsFilled (λ (k : ℕ). get_or (field_halves (read_plane l.plane l.samples) l.fn.pair l.width l.height l.x l.line) k 0) l.initial.out (l.width * l.height) 2 l.f l.out

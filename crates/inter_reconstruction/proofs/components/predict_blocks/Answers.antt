@@ -2,7 +2,7 @@
 -- Assumes nothing.
 use Rattle.inter_reconstruction.specs.Components.{luma, cb, cr}
 use Rattle.inter_reconstruction.proofs.Cells.{cell_of, luma_at, luma_rows, chroma_block, chroma_rows}
-use Rattle.inter_reconstruction.proofs.macroblock.predict_blocks.Goals as goal
+use Rattle.inter_reconstruction.proofs.components.predict_blocks.Goals as goal
 
 pub predict_direction-requires : goal.predict_direction-requires
 predict_direction-requires c =

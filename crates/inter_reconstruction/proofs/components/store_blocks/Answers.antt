@@ -2,7 +2,7 @@
 -- Assumes nothing.
 use Rattle.std.proofs.Common.{◌∙◌, ap, refl, length, ◌+◌, ◌++◌, append_assoc, arith}
 use Rattle.inter_reconstruction.proofs.Begun.{begun_first, begun_part, begun_rest, append_count}
-use Rattle.inter_reconstruction.proofs.macroblock.store_blocks.Goals as goal
+use Rattle.inter_reconstruction.proofs.components.store_blocks.Goals as goal
 
 pub returns : goal.returns
 returns c =

@@ -5,7 +5,7 @@ use Rattle.inter_reconstruction.specs.Macroblock.{macroblock}
 use Rattle.inter_reconstruction.proofs.Begun.{blank, front_is}
 use Rattle.inter_reconstruction.proofs.Cells.{chroma_bytes}
 use Rattle.inter_reconstruction.proofs.Rectangles.{rectangle_length}
-use Rattle.inter_reconstruction.proofs.macroblock.predict_from_one.Goals as goal
+use Rattle.inter_reconstruction.proofs.components.predict_from_one.Goals as goal
 
 pub returns : goal.returns
 unfolding macroblock

@@ -3,7 +3,7 @@
 use Rattle.std.proofs.Common.{rules, arith, ◌∙◌, length, FitsSigned, w32}
 use Rattle.std.proofs.lemmas.Int.{to_z_pos, to_z-of_z}
 use Rattle.inter_reconstruction.proofs.Rectangles.{block_accepted, block_written, lines_are}
-use Rattle.inter_reconstruction.proofs.macroblock.predict_lines.Goals as goal
+use Rattle.inter_reconstruction.proofs.blocks.predict_lines.Goals as goal
 
 pub returns : goal.returns
 returns c =

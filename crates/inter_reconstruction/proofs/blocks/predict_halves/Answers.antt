@@ -1,6 +1,6 @@
 -- A turn writes the lines of one field, which are the next half of the output.
 -- Assumes nothing.
-use Rattle.std.proofs.Common.{ℕ, zero, suc, List, ◌++◌, ◌≡◌, ◌∙◌, sym, length, get_or, ◌+◌, ◌*◌, ◌<◌, arith, length-append}
+use Rattle.std.proofs.Common.{ℕ, zero, suc, List, [], ◌∷◌, ◌++◌, ◌≡◌, ◌∙◌, sym, length, get_or, ◌+◌, ◌*◌, ◌<◌, arith, length-append}
 use native.Mathlib.Nat.{zero-mul, one-mul, zero-add}
 use lib.ListN.{get_or-append}
 use lib.Seq.{get_or-append-add}
@@ -8,14 +8,13 @@ use Rattle.laws.specs.Tabulate.{tabulate}
 use Rattle.laws.proofs.Rows.{rows_none, rows_part, rows_step, rows_all}
 use Rattle.laws.proofs.Tabulated.{get_or_tab, tab_self}
 use Rattle.forming_predictions.specs.Means.{rounded}
-use Rattle.inter_reconstruction.specs.Motion.{field_vector_of}
 use Rattle.inter_reconstruction.specs.Macroblock.{column_at, row_at, field_sample, rectangle}
 use Rattle.inter_reconstruction.specs.declared.motion.FieldVector.{FieldVector}
 use Rattle.inter_reconstruction.specs.declared.motion.FieldVectorPair.{FieldVectorPair}
 use Rattle.inter_reconstruction.specs.Frames.{PlaneReading, read_plane}
 use Rattle.inter_reconstruction.specs.inner.Blocks.{field_halves}
 use Rattle.inter_reconstruction.proofs.Rectangles.{rectangle_length}
-use Rattle.inter_reconstruction.proofs.macroblock.predict_halves.Goals as goal
+use Rattle.inter_reconstruction.proofs.blocks.predict_halves.Goals as goal
 
 -- both blocks, cell by cell
 module _ (read : PlaneReading) (pair : FieldVectorPair) (w h x line : ℕ) where
@@ -26,16 +25,16 @@ module _ (read : PlaneReading) (pair : FieldVectorPair) (w h x line : ℕ) where
   unfolding rectangle
   in_block u k l = sym (get_or_tab (w * h) _ k 0 l)
 
-  in_halves : (f k : ℕ) → f < 2 → k < w * h
-      → field_sample rounded read (field_vector_of pair f) (column_at w x k) (row_at w line k) ≡ get_or (field_halves read pair w h x line) (f * (w * h) + k) 0
+  in_halves : (d : FieldVector) (f k : ℕ) → f < 2 → k < w * h
+      → field_sample rounded read (get_or (pair.top ∷ pair.bottom ∷ []) f d) (column_at w x k) (row_at w line k) ≡ get_or (field_halves read pair w h x line) (f * (w * h) + k) 0
   unfolding field_halves
-  in_halves zero k p l =
+  in_halves d zero k p l =
       rw (zero-mul (w * h), zero-add k)
       (in_block pair.top k l ∙ sym (get_or-append (block pair.top) (block pair.bottom) 0 k (omega (arith, rectangle_length w h (field_sample rounded read pair.top) x line))))
-  in_halves (suc zero) k p l =
+  in_halves d (suc zero) k p l =
       rw (one-mul (w * h), ← rectangle_length w h (field_sample rounded read pair.top) x line)
       (in_block pair.bottom k l ∙ sym (get_or-append-add (block pair.top) (block pair.bottom) k 0))
-  in_halves (suc (suc f)) k p l = absurd (omega arith)
+  in_halves d (suc (suc f)) k p l = absurd (omega arith)
 
   -- one block, as a part of m bytes
   as-part : (u : FieldVector) (m : ℕ) (ys : List ℕ) → m ≡ w * h → ys ≡ block u
@@ -60,8 +59,8 @@ loop-f-preserved c =
     let less : c.loop-f.f < 2 = omega (arith, c.loop-f-test.true) in
     let read = read_plane a.plane a.samples.now in
     rows_step c.loop-f.invariant less
-    (as-part read a.pair a.width a.height a.x a.line (field_vector_of a.pair c.loop-f.f) _ _ (rows_part c.loop-f.invariant less) (rw c.vector_of.ensures at c.predict_lines.ensures))
-    (λ k h. in_halves read a.pair a.width a.height a.x a.line c.loop-f.f k less h)
+    (as-part read a.pair a.width a.height a.x a.line _ _ _ (rows_part c.loop-f.invariant less) c.predict_lines.ensures)
+    (λ k h. in_halves read a.pair a.width a.height a.x a.line _ c.loop-f.f k less h)
 
 pub returns : goal.returns
 returns c =

@@ -4,7 +4,7 @@ use Rattle.std.proofs.Common.{◌∙◌, ap, length, ◌*◌, ◌++◌, arith}
 use Rattle.inter_reconstruction.specs.inner.Planes.{chroma_blocks}
 use Rattle.inter_reconstruction.proofs.Begun.{begun_first, begun_part, begun_all, append_count}
 use Rattle.inter_reconstruction.proofs.Rectangles.{rectangle_length}
-use Rattle.inter_reconstruction.proofs.macroblock.predict_chroma.Goals as goal
+use Rattle.inter_reconstruction.proofs.components.predict_chroma.Goals as goal
 
 pub returns : goal.returns
 unfolding chroma_blocks

@@ -4,7 +4,7 @@ use Rattle.std.proofs.Common.{◌∙◌, ap, length, drop, ◌*◌}
 use Rattle.inter_reconstruction.specs.Frames.{read_plane}
 use Rattle.inter_reconstruction.proofs.Begun.{blank, front_is}
 use Rattle.inter_reconstruction.proofs.Rectangles.{halves_length, interleaved_is}
-use Rattle.inter_reconstruction.proofs.macroblock.predict_fields.Goals as goal
+use Rattle.inter_reconstruction.proofs.blocks.predict_fields.Goals as goal
 
 pub returns : goal.returns
 returns c =

@@ -1,0 +1,254 @@
+//! ISO/IEC 13818-2, 7.6.4 to 7.6.7: one component of a macroblock, the block of one direction or the mean of two. Nothing here knows which
+//! component it is.
+ghost use Rattle.std.specs.Prelude.{◌≡◌, ◌+◌, ◌*◌, ◌%◌, ◌≤◌, ◌<◌, length};
+ghost use Rattle.laws.specs.Tabulate.{tabulate};
+ghost use Rattle.forming_predictions.specs.Means.{rounded};
+ghost use Rattle.inter_reconstruction.specs.declared.motion.DirectionMotion.TheVariants.{Frame, Field};
+ghost use Rattle.inter_reconstruction.specs.declared.motion.Uses.TheVariants.{Both};
+ghost use Rattle.inter_reconstruction.specs.Frames.{read_plane};
+ghost use Rattle.inter_reconstruction.specs.Macroblock.{field_sample, direction_sample, used_sample, rectangle};
+ghost use Rattle.inter_reconstruction.specs.inner.Blocks.{PlaneFits, BlockAt, FieldRows, HalvesAt, field_halves, interleaved_cell, forward_bytes};
+
+use crate::motion::{DirectionMotion, FieldVector, FieldVectorPair, MotionVectorPel};
+use crate::samples::copy_samples;
+use combine_predictions::{
+    PredictionDirection, average_predictions, combine_directional_predictions,
+};
+use forming_predictions::{
+    BlockSize, FieldReference, ReferencePlane, predict_block, predict_field_block,
+};
+
+// The calls below refuse nothing of what they are given here, and their answers are let go: with an `unwrap`, which asks for nothing when it
+// runs, a field's block took 14 instructions more.
+
+/// A block of the frame's rows.
+fn predict_rows(
+    plane: ReferencePlane,
+    samples: &[u8],
+    x: usize,
+    y: usize,
+    width: usize,
+    height: usize,
+    v: MotionVectorPel,
+    out: &mut [u8],
+)
+    requires { PlaneFits plane samples.now × BlockAt x y width height (length out.old) }
+    ensures { out.new ≡ rectangle width height (direction_sample rounded (read_plane plane samples.now) (Frame v)) x y }
+{
+    let _ = predict_block(
+        plane,
+        samples,
+        x as i32,
+        y as i32,
+        BlockSize {
+            width: width,
+            height: height,
+        },
+        v.horizontal,
+        v.vertical,
+        out,
+    );
+}
+
+/// A block of a field's lines.
+fn predict_lines(
+    plane: ReferencePlane,
+    samples: &[u8],
+    x: usize,
+    line: usize,
+    width: usize,
+    height: usize,
+    u: FieldVector,
+    out: &mut [u8],
+)
+    requires { PlaneFits plane samples.now × BlockAt x line width height (length out.old) }
+    ensures { out.new ≡ rectangle width height (field_sample rounded (read_plane plane samples.now) u) x line }
+{
+    let v = u.vector;
+    let reference_field = u.reference_field;
+    let _ = predict_field_block(
+        FieldReference {
+            plane: plane,
+            parity: reference_field,
+        },
+        samples,
+        x as i32,
+        line as i32,
+        BlockSize {
+            width: width,
+            height: height,
+        },
+        v.horizontal,
+        v.vertical,
+        out,
+    );
+}
+
+/// A row of 8 or 16, by eights: a copy of a fixed length is one load and one store, and no call. It is a part of a local block: fixed memory.
+fn copy_row(from: &[u8], out: &mut [u8])
+    requires { (length out.old ≡ length from.now) × (0 < length out.old) × (length out.old ≤ 16) × (length out.old % 8 ≡ 0) }
+    ensures { out.new ≡ from.now }
+{
+    copy_samples(&from[0..8], &mut out[0..8]);
+    if out.len() == 8 {
+        return;
+    }
+    copy_samples(&from[8..16], &mut out[8..16]);
+}
+
+/// Two field blocks of `half` rows, one after the other, become the rows of a frame: a row of the one, a row of the other.
+fn interleave(halves: &[u8], width: usize, half: usize, out: &mut [u8])
+    requires { (width ≤ 16) × (half ≤ 8) × (length halves.now ≡ width * (half + half)) × (length out.old ≡ width * (half + half)) × (0 < width) × (width % 8 ≡ 0) }
+    ensures { out.new ≡ tabulate (width * (half + half)) (interleaved_cell halves.now width half) }
+{
+    let height = half + half;
+    for r in 0..height {
+        let a = (r % 2 * half + r / 2) * width;
+        let b = a + width;
+        let o = r * width;
+        let e = o + width;
+        copy_row(&halves[a..b], &mut out[o..e]);
+    }
+}
+
+/// Both fields' lines, one block after the other. As there is one call for both, it is inlined, and what is the same for both fields is tested
+/// once.
+fn predict_halves(
+    plane: ReferencePlane,
+    samples: &[u8],
+    x: usize,
+    line: usize,
+    width: usize,
+    height: usize,
+    pair: FieldVectorPair,
+    out: &mut [u8],
+)
+    requires { PlaneFits plane samples.now × HalvesAt x line width height (length out.old) }
+    ensures { out.new ≡ field_halves (read_plane plane samples.now) pair width height x line }
+{
+    let n = width * height;
+    for (f, &u) in [pair.top, pair.bottom].iter().enumerate() {
+        let a = f * n;
+        let e = a + n;
+        predict_lines(plane, samples, x, line, width, height, u, &mut out[a..e]);
+    }
+}
+
+/// The block of a direction whose fields have vectors of their own: each field's lines, then interleaved.
+fn predict_fields(
+    plane: ReferencePlane,
+    samples: &[u8],
+    x: usize,
+    y: usize,
+    width: usize,
+    height: usize,
+    pair: FieldVectorPair,
+    out: &mut [u8],
+)
+    requires { PlaneFits plane samples.now × BlockAt x y width height (length out.old) × FieldRows y height }
+    ensures { out.new ≡ rectangle width height (direction_sample rounded (read_plane plane samples.now) (Field pair)) x y }
+{
+    // fixed memory: no heap in the layers, and no block is larger than 256
+    let mut halves = [0u8; 256];
+    let n = width * height;
+    let half = height / 2;
+    predict_halves(
+        plane,
+        samples,
+        x,
+        y / 2,
+        width,
+        half,
+        pair,
+        &mut halves[..n],
+    );
+    interleave(&halves[..n], width, half, out);
+}
+
+/// The block of one direction.
+pub(crate) fn predict_direction(
+    plane: ReferencePlane,
+    samples: &[u8],
+    x: usize,
+    y: usize,
+    width: usize,
+    height: usize,
+    motion: DirectionMotion,
+    out: &mut [u8],
+)
+    requires { PlaneFits plane samples.now × BlockAt x y width height (length out.old) × FieldRows y height }
+    ensures { out.new ≡ rectangle width height (direction_sample rounded (read_plane plane samples.now) motion) x y }
+{
+    match motion {
+        DirectionMotion::Frame(v) => predict_rows(plane, samples, x, y, width, height, v, out),
+        DirectionMotion::Field(pair) => predict_fields(
+            plane, samples, x, y, width, height, pair, out,
+        ),
+    }
+}
+
+/// How many bytes a block of n has of the forward prediction, where there is one direction alone.
+fn forward_bytes(direction: PredictionDirection, n: usize) -> usize
+    ensures { result ≡ forward_bytes direction n }
+{
+    match direction {
+        PredictionDirection::Forward => n,
+        PredictionDirection::Backward => 0,
+        PredictionDirection::Skipped => n,
+    }
+}
+
+/// Writes the prediction of the one direction that there is. The other direction's is empty.
+pub(crate) fn store_chosen(direction: PredictionDirection, block: &[u8], out: &mut [u8])
+    requires { length out.old ≡ length block.now }
+    ensures { out.new ≡ block.now }
+{
+    let f = forward_bytes(direction, block.len());
+    let b = block.len() - f;
+    let chosen = combine_directional_predictions(direction, &block[..f], &block[..b]);
+    copy_samples(chosen, out);
+}
+
+/// The block of a macroblock with two directions: each predicted into a local block, then averaged.
+pub(crate) fn predict_two(
+    forward: ReferencePlane,
+    forward_samples: &[u8],
+    forward_motion: DirectionMotion,
+    backward: ReferencePlane,
+    backward_samples: &[u8],
+    backward_motion: DirectionMotion,
+    x: usize,
+    y: usize,
+    width: usize,
+    height: usize,
+    out: &mut [u8],
+)
+    requires { PlaneFits forward forward_samples.now × PlaneFits backward backward_samples.now × BlockAt x y width height (length out.old) × FieldRows y height }
+    ensures { out.new ≡ rectangle width height (used_sample rounded (read_plane forward forward_samples.now) (read_plane backward backward_samples.now) (Both forward_motion backward_motion)) x y }
+{
+    // fixed memory, as above
+    let mut first = [0u8; 256];
+    let mut second = [0u8; 256];
+    let n = width * height;
+    predict_direction(
+        forward,
+        forward_samples,
+        x,
+        y,
+        width,
+        height,
+        forward_motion,
+        &mut first[..n],
+    );
+    predict_direction(
+        backward,
+        backward_samples,
+        x,
+        y,
+        width,
+        height,
+        backward_motion,
+        &mut second[..n],
+    );
+    let _ = average_predictions(&first[..n], &second[..n], out);
+}
