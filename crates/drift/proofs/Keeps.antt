@@ -16,7 +16,7 @@ use Rattle.inter_reconstruction.specs.Motion.{field_vector_of, uses_of}
 use Rattle.inter_reconstruction.specs.Frames.{Samples, PlaneReading, plane_of}
 use Rattle.inter_reconstruction.specs.Macroblock.{field_sample, direction_sample, used_sample, rectangle, part, macroblock, predicted}
 use Rattle.inter_reconstruction.specs.Placing.{place_in, part_first, placed}
-use Rattle.inter_reconstruction.specs.declared.frames.FrameBuffer.{FrameBuffer}
+use Rattle.inter_reconstruction.specs.declared.frames.FrameSides.{FrameSides}
 use Rattle.inter_reconstruction.specs.declared.motion.FieldVector.{FieldVector}
 use Rattle.inter_reconstruction.specs.declared.motion.DirectionMotion.{DirectionMotion}
 use Rattle.inter_reconstruction.specs.declared.motion.DirectionMotion.TheVariants.{Frame, Field}
@@ -77,7 +77,7 @@ module _ (a b : Means) (R S P : ℕ → ℕ → Type 0) (K : Keeps a b R S P) wh
     predicted_alike = related_append P (part_alike luma) (related_append P (part_alike cb) (part_alike cr))
 
 -- placing related macroblocks in related planes
-pub placed_alike : (R : ℕ → ℕ → Type 0) → R 0 0 → (p : FrameBuffer) (col row : ℕ) {bytes units : List ℕ} (planes planes' : Samples) (c : ColourComponent)
+pub placed_alike : (R : ℕ → ℕ → Type 0) → R 0 0 → (p : FrameSides) (col row : ℕ) {bytes units : List ℕ} (planes planes' : Samples) (c : ColourComponent)
     → Related R bytes units
     → Related R (planes c) (planes' c)
     → Related R (placed p col row bytes planes c) (placed p col row units planes' c)

@@ -4,7 +4,7 @@
 use Rattle.std.specs.Prelude.{Bool, cond, List, [], ◌∷◌, ℕ, eqb, length, Option, Some, None, is_some}
 use Rattle.combine_predictions.specs.Refusals.{unless_refused}
 use Rattle.forming_predictions.specs.Means.{rounded}
-use Rattle.forming_predictions.specs.declared.ReferencePlane.{ReferencePlane}
+use Rattle.forming_predictions.specs.declared.PlaneSides.{PlaneSides}
 use Rattle.inter_reconstruction.specs.Components.{ColourComponent, luma, cb, cr, columns_of, lines_of, macroblock_bytes}
 use Rattle.inter_reconstruction.specs.Motion.{frame_uses, field_uses}
 use Rattle.inter_reconstruction.specs.Frames.{Samples, lengths_of, read_reference}
@@ -12,7 +12,7 @@ use Rattle.inter_reconstruction.specs.Macroblock.{predicted}
 use Rattle.inter_reconstruction.specs.Refusals.{prediction_refusal}
 use Rattle.inter_reconstruction.specs.Placing.{placed, placing_refusal}
 use Rattle.inter_reconstruction.specs.declared.frames.FrameGeometry.{FrameGeometry}
-use Rattle.inter_reconstruction.specs.declared.frames.FrameBuffer.{FrameBuffer}
+use Rattle.inter_reconstruction.specs.declared.frames.FrameSides.{FrameSides}
 use Rattle.inter_reconstruction.specs.declared.motion.MotionVectorPel.{MotionVectorPel}
 use Rattle.inter_reconstruction.specs.declared.motion.FieldVectorPair.{FieldVectorPair}
 use Rattle.inter_reconstruction.specs.declared.motion.Motion as Macroblock
@@ -54,15 +54,15 @@ abbrev pub replaced : Pictures → ℕ → Samples → Pictures
 replaced pictures n new m = cond (eqb m n) new (pictures m)
 
 -- a picture of this geometry, its planes fitting
-abbrev pub fitting_plane : FrameGeometry → ColourComponent → ReferencePlane
+abbrev pub fitting_plane : FrameGeometry → ColourComponent → PlaneSides
 fitting_plane g c = record { width = columns_of g.chroma_format c g.width; height = lines_of g.chroma_format c g.height }
 
-abbrev pub fitting : FrameGeometry → FrameBuffer
+abbrev pub fitting : FrameGeometry → FrameSides
 fitting g = record { geometry = g; y = fitting_plane g luma; cb = fitting_plane g cb; cr = fitting_plane g cr }
 
 -- a reference as the calls get it: the frame, and beside it the samples of its planes. Beside a reference that is absent nothing is read, and
 -- any samples would do
-abbrev pub reference : FrameGeometry → Option ℕ → Option FrameBuffer
+abbrev pub reference : FrameGeometry → Option ℕ → Option FrameSides
 reference g None = None
 reference g (Some j) = Some (fitting g)
 

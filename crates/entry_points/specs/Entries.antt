@@ -25,7 +25,7 @@ use Rattle.pmv.specs.declared.vector.VectorComponents.{VectorComponents}
 use Rattle.pmv.specs.declared.update.PmvUpdateContext.{PmvUpdateContext}
 use Rattle.entry_points.specs.Layout.{predictors_of, pair_bytes}
 use Rattle.inter_reconstruction.specs.declared.frames.FrameGeometry.{FrameGeometry}
-use Rattle.inter_reconstruction.specs.declared.frames.FrameBuffer.{FrameBuffer}
+use Rattle.inter_reconstruction.specs.declared.frames.FrameSides.{FrameSides}
 use Rattle.inter_reconstruction.specs.declared.motion.MotionVectorPel.{MotionVectorPel}
 use Rattle.inter_reconstruction.specs.declared.motion.FieldVector.{FieldVector}
 use Rattle.inter_reconstruction.specs.declared.motion.FieldVectorPair.{FieldVectorPair}
@@ -80,7 +80,7 @@ field_known format forward forward_format backward backward_format forward_motio
 unfoldable pub geometry_of : ℕ → ℕ → ℕ → FrameGeometry
 geometry_of w h format = record { width = w; height = h; chroma_format = unwrap_or (chroma_from format) Yuv420 }
 
-unfoldable pub reference_of : ℕ → ℕ → ℕ → ℕ → ℕ → ℕ → ℕ → ℕ → ℕ → ℕ → Option FrameBuffer
+unfoldable pub reference_of : ℕ → ℕ → ℕ → ℕ → ℕ → ℕ → ℕ → ℕ → ℕ → ℕ → Option FrameSides
 reference_of present w h format yw yh bw bh rw rh =
     cond (is_yes present)
     (Some

@@ -13,8 +13,8 @@ use Rattle.inter_reconstruction.specs.declared.motion.Uses.{Uses}
 use Rattle.inter_reconstruction.specs.Components.{ColourComponent, luma, cb, cr, block_width, block_height, block_bytes, macroblock_bytes}
 use Rattle.inter_reconstruction.specs.Motion.{chroma_uses}
 use Rattle.inter_reconstruction.specs.Frames.{PlaneReading}
-use Rattle.inter_reconstruction.specs.Macroblock.{used_sample, rectangle, macroblock, predicted}
-use Rattle.inter_reconstruction.specs.inner.Blocks.{BlockAt, FieldRows, ChromaSides}
+use Rattle.inter_reconstruction.specs.Macroblock.{first_column, first_row, used_sample, rectangle, macroblock, predicted}
+use Rattle.inter_reconstruction.specs.inner.Blocks.{AreaFits, FieldRows, ChromaSides}
 use Rattle.inter_reconstruction.specs.inner.Planes.{CellFits, BlocksFit, chroma_blocks}
 use Rattle.inter_reconstruction.proofs.Begun.{append_count}
 use Rattle.inter_reconstruction.proofs.Rectangles.{rectangle_length}
@@ -35,29 +35,28 @@ pub cell_of : {f : ChromaFormat} {col row a b r : ℕ} → BlocksFit f col row a
 cell_of h = record { column = h.column; line = h.line; count = refl }
 
 -- ---- the luminance
-pub luma_at : {f : ChromaFormat} {col row n : ℕ} (m : ℕ) → CellFits f col row n → m ≡ 256 → BlockAt (col * 16) (row * 16) 16 16 m
-luma_at m c e =
+pub luma_fits : {col row : ℕ} → col ≤ 1023 → row ≤ 1023 → AreaFits (col * 16) (row * 16) 16 16
+luma_fits p q =
     record {
-      left = omega (arith, c.column);
-      top = omega (arith, c.line);
+      left = omega (arith, p);
+      top = omega (arith, q);
       some = omega arith;
       wide = omega arith;
       eights = refl;
       tall = omega arith;
       high = omega arith;
-      count = e;
     }
 
 pub luma_rows : (row : ℕ) → FieldRows (row * 16) 16
 luma_rows row = record { first = omega arith; even = refl }
 
 -- ---- the chrominance
-pub chroma_length : (fb fr bb br : PlaneReading) (u : Uses) (w h x y : ℕ) → length (chroma_blocks fb fr bb br u w h x y) ≡ w * h + w * h
+pub chroma_length : (f b : ColourComponent → PlaneReading) (u : Uses) (w h x y : ℕ) → length (chroma_blocks f b u w h x y) ≡ w * h + w * h
 unfolding chroma_blocks
-chroma_length fb fr bb br u w h x y =
+chroma_length f b u w h x y =
     let block : PlaneReading → PlaneReading → List ℕ = λ f b. rectangle w h (used_sample rounded f b u) x y in
     let n : (f b : PlaneReading) → length (block f b) ≡ w * h = λ f b. rectangle_length w h (used_sample rounded f b u) x y in
-    append_count (block fb bb) (block fr br) (w * h) (w * h) _ (n fb bb) (n fr br) refl
+    append_count (block (f cb) (b cb)) (block (f cr) (b cr)) (w * h) (w * h) _ (n (f cb) (b cb)) (n (f cr) (b cr)) refl
 
 module _ (f : ChromaFormat) (w h : ℕ) (ew : w ≡ block_width f cb) (eh : h ≡ block_height f cb) where
   sides : ChromaSides w h
@@ -69,35 +68,27 @@ module _ (f : ChromaFormat) (w h : ℕ) (ew : w ≡ block_width f cb) (eh : h �
   pub chroma_rows : (row : ℕ) → FieldRows (row * h) h
   chroma_rows row = record { first = even_multiple row h sides.even; even = sides.even }
 
-  module _ {col row n : ℕ} (c : CellFits f col row n) where
-    pub chroma_left : col * w ≤ 16368
-    chroma_left = mul-le-mul c.column sides.wide
+  pub chroma_total : {col row n : ℕ} → CellFits f col row n → n ≡ 256 + (w * h + w * h)
+  chroma_total c = rw (ew, eh) c.count
 
-    pub chroma_top : row * h ≤ 16368
-    chroma_top = mul-le-mul c.line sides.high
+  pub chroma_fits : {col row : ℕ} → col ≤ 1023 → row ≤ 1023 → AreaFits (col * w) (row * h) w h
+  chroma_fits p q =
+      record {
+        left = mul-le-mul p sides.wide;
+        top = mul-le-mul q sides.high;
+        some = omega (arith, sides.wide_lo);
+        wide = sides.wide;
+        eights = sides.eights;
+        tall = omega (arith, sides.high_lo);
+        high = sides.high;
+      }
 
-    pub chroma_total : n ≡ 256 + (w * h + w * h)
-    chroma_total = rw (ew, eh) c.count
+-- ---- the bytes
 
-    pub chroma_block : (m : ℕ) → m ≡ block_bytes f cb → BlockAt (col * w) (row * h) w h m
-    chroma_block m e =
-        record {
-          left = chroma_left;
-          top = chroma_top;
-          some = omega (arith, sides.wide_lo);
-          wide = sides.wide;
-          eights = sides.eights;
-          tall = omega (arith, sides.high_lo);
-          high = sides.high;
-          count = e ∙ sym chroma_bytes;
-        }
-
-  -- ---- the bytes
-
-  pub parts_are : (forward backward : ColourComponent → PlaneReading) (u v : Uses) (col row : ℕ) (a b : List ℕ)
-      → v ≡ chroma_uses f u
-      → a ≡ rectangle 16 16 (used_sample rounded (forward luma) (backward luma) u) (col * 16) (row * 16)
-      → b ≡ chroma_blocks (forward cb) (forward cr) (backward cb) (backward cr) v w h (col * w) (row * h)
-      → a ++ b ≡ predicted rounded f forward backward u col row
-  unfolding macroblock chroma_blocks
-  parts_are forward backward u v col row a b ev ea eb = rw (ea, eb, ew, eh, ev)
+pub parts_are : (f : ChromaFormat) (forward backward : ColourComponent → PlaneReading) (u v : Uses) (col row : ℕ) (a b : List ℕ)
+    → v ≡ chroma_uses f u
+    → a ≡ rectangle 16 16 (used_sample rounded (forward luma) (backward luma) u) (col * 16) (row * 16)
+    → b ≡ chroma_blocks forward backward v (block_width f cb) (block_height f cb) (first_column f cb col) (first_row f cb row)
+    → a ++ b ≡ predicted rounded f forward backward u col row
+unfolding macroblock chroma_blocks
+parts_are f forward backward u v col row a b ev ea eb = rw (ea, eb, ev)

@@ -9,7 +9,7 @@ use Rattle.laws.proofs.Tests.{both}
 use Rattle.forming_predictions.specs.Means.{rounded}
 use Rattle.forming_predictions.specs.Refusals.{plane_fits}
 use Rattle.pmv.specs.declared.kinds.ChromaFormat.{ChromaFormat}
-use Rattle.inter_reconstruction.specs.declared.frames.FrameBuffer.{FrameBuffer}
+use Rattle.inter_reconstruction.specs.declared.frames.FrameSides.{FrameSides}
 use Rattle.inter_reconstruction.specs.declared.motion.DirectionMotion.{DirectionMotion}
 use Rattle.inter_reconstruction.specs.declared.motion.Uses.TheVariants.{Forward, Backward}
 use Rattle.inter_reconstruction.specs.Components.{ColourComponent, luma, cb, cr, block_width, block_height, macroblock_bytes}
@@ -23,10 +23,10 @@ neither true y e = let z : ◌≡◌ {A = ℕ} 0 1 = cc in absurd (omega arith)
 neither false y e = (refl, e)
 
 -- every plane fits
-abbrev plane_fits_lem : FrameBuffer → Samples → ColourComponent → Bool
+abbrev plane_fits_lem : FrameSides → Samples → ColourComponent → Bool
 plane_fits_lem b s c = plane_fits (plane_of b c).width (plane_of b c).height (length (s c))
 
-pub frame_fits : (b : FrameBuffer) (s : Samples) → planes_fit b (lengths_of s) ≡ true → FrameFits b s
+pub frame_fits : (b : FrameSides) (s : Samples) → planes_fit b (lengths_of s) ≡ true → FrameFits b s
 unfolding planes_fit
 frame_fits b s e c = go c
   where

@@ -14,7 +14,7 @@ use Rattle.inter_reconstruction.specs.Motion.{remaining, BackwardAlone}
 use Rattle.inter_reconstruction.specs.Refusals.{too_far, cell_refusal, same_geometry, planes_fit, geometry_refusal, planes_refusal, references_refusal, prediction_refusal}
 use Rattle.inter_reconstruction.specs.Answers.{accepted, directions_of, prediction_directions}
 use Rattle.inter_reconstruction.specs.declared.frames.FrameGeometry.{FrameGeometry}
-use Rattle.inter_reconstruction.specs.declared.frames.FrameBuffer.{FrameBuffer}
+use Rattle.inter_reconstruction.specs.declared.frames.FrameSides.{FrameSides}
 use Rattle.inter_reconstruction.specs.declared.motion.DirectionMotion.{DirectionMotion}
 use Rattle.inter_reconstruction.specs.declared.motion.Uses.{Uses}
 use Rattle.inter_reconstruction.specs.declared.motion.Uses.TheVariants.{Forward, Backward, Both}
@@ -36,34 +36,34 @@ or_else_other : (a b : Option PredictionRefusal) → Other a → Other b → Oth
 or_else_other None b h k e = k e
 or_else_other (Some r) b h k e = h e
 
-geometry_other : (dest : FrameGeometry) (r : Option FrameBuffer) → Other (geometry_refusal dest r)
+geometry_other : (dest : FrameGeometry) (r : Option FrameSides) → Other (geometry_refusal dest r)
 geometry_other dest None e = absurd cc
 geometry_other dest (Some p) e = cause_other (not (same_geometry p.geometry dest)) OtherGeometry (λ z. absurd cc) e
 
-planes_other : (r : Option FrameBuffer) (n : ColourComponent → ℕ) → Other (planes_refusal r n)
+planes_other : (r : Option FrameSides) (n : ColourComponent → ℕ) → Other (planes_refusal r n)
 planes_other None n e = absurd cc
 planes_other (Some p) n e = cause_other (not (planes_fit p n)) OutsideDomain (λ z. absurd cc) e
 
-one_other : (dest : FrameGeometry) (r : Option FrameBuffer) (n : ColourComponent → ℕ) → Other (or_else (geometry_refusal dest r) (planes_refusal r n))
+one_other : (dest : FrameGeometry) (r : Option FrameSides) (n : ColourComponent → ℕ) → Other (or_else (geometry_refusal dest r) (planes_refusal r n))
 one_other dest r n = or_else_other _ _ (geometry_other dest r) (planes_other r n)
 
 module _ (dest : FrameGeometry) (n k : ColourComponent → ℕ) where
   -- what is accepted by the directions that have motion uses these
-  pub unchanged : (f b : Option FrameBuffer) (u : Uses) → references_refusal dest f n b k u ≡ None → remaining u (is_some f) (is_some b) ≡ u
+  pub unchanged : (f b : Option FrameSides) (u : Uses) → references_refusal dest f n b k u ≡ None → remaining u (is_some f) (is_some b) ≡ u
   unchanged f b (Forward d) a = refl
   unchanged f b (Backward e) a = refl
   unchanged None b (Both d e) a = absurd cc
   unchanged (Some p) None (Both d e) a = absurd cc
   unchanged (Some p) (Some q) (Both d e) a = refl
 
-  both_other : (p q : FrameBuffer) (d e : DirectionMotion) → Other (references_refusal dest (Some p) n (Some q) k (Both d e))
+  both_other : (p q : FrameSides) (d e : DirectionMotion) → Other (references_refusal dest (Some p) n (Some q) k (Both d e))
   both_other p q d e =
       or_else_other (geometry_refusal dest (Some p)) _ (geometry_other dest (Some p))
       (or_else_other (geometry_refusal dest (Some q)) _ (geometry_other dest (Some q))
       (or_else_other (planes_refusal (Some p) n) _ (planes_other (Some p) n) (planes_other (Some q) k)))
 
   -- 17 is a backward reference that is absent, where there is backward motion alone
-  pub backward_only : (f b : Option FrameBuffer) (u : Uses)
+  pub backward_only : (f b : Option FrameSides) (u : Uses)
       → references_refusal dest f n b k (remaining u (is_some f) (is_some b)) ≡ Some BackwardMissing
       → BackwardAlone u × (is_some b ≡ false)
   backward_only f None (Backward e) a = (tt, refl)
@@ -76,7 +76,7 @@ module _ (dest : FrameGeometry) (n k : ColourComponent → ℕ) where
   backward_only (Some p) (Some q) (Both d e) a = absurd (both_other p q d e a)
 
   -- of motion in both directions: both references absent, and each of the two alone
-  module _ (d e : DirectionMotion) (p : FrameBuffer) where
+  module _ (d e : DirectionMotion) (p : FrameSides) where
     pub both_absent : references_refusal dest None n None k (remaining (Both d e) false false) ≡ Some ForwardMissing
     both_absent = refl
 
@@ -108,7 +108,7 @@ pub told : (r : Result Accepted PredictionRefusal) (n : Option PredictionRefusal
 told r None u a e = ap prediction_directions a
 told r (Some q) u a e = let z : Some q ≡ None = sym (refusal_of (Some q) (accepted u) a) ∙ e in absurd cc
 
-module _ (dest : FrameGeometry) (out : ℕ) (f b : Option FrameBuffer) (n k : ColourComponent → ℕ) (u : Uses) (col row : ℕ) where
+module _ (dest : FrameGeometry) (out : ℕ) (f b : Option FrameSides) (n k : ColourComponent → ℕ) (u : Uses) (col row : ℕ) where
   abbrev used : Uses
   used = remaining u (is_some f) (is_some b)
 

@@ -14,7 +14,7 @@ use borrow.Author.Tests.{ltb-true, ltb-false}
 use Rattle.laws.proofs.Tabulated.{get_or_tab}
 use Rattle.forming_predictions.proofs.Blocks.{block_row}
 use Rattle.pmv.specs.declared.kinds.ChromaFormat.{ChromaFormat}
-use Rattle.inter_reconstruction.specs.declared.frames.FrameBuffer.{FrameBuffer}
+use Rattle.inter_reconstruction.specs.declared.frames.FrameSides.{FrameSides}
 use Rattle.inter_reconstruction.specs.Components.{ColourComponent, luma, cb, cr, block_width, block_height, block_bytes}
 use Rattle.inter_reconstruction.specs.Frames.{Samples, lengths_of, plane_of}
 use Rattle.inter_reconstruction.specs.Macroblock.{column_at, row_at, first_column, first_row, rectangle, part, macroblock}
@@ -122,7 +122,7 @@ part_is f rule col row cr =
     ∙ take_all (block_bytes f cr) (part f cr (rule cr) col row) (omega (arith, rectangle_length (block_width f cr) (block_height f cr) (rule cr) (first_column f cr col) (first_row f cr row)))
 
 -- what was formed for a column and a row of a plane stands there afterwards
-pub placed_where_formed : (p : FrameBuffer) (planes : Samples) (bytes col row : ℕ) → Placeable p (lengths_of planes) bytes col row
+pub placed_where_formed : (p : FrameSides) (planes : Samples) (bytes col row : ℕ) → Placeable p (lengths_of planes) bytes col row
     → (rule : ColourComponent → ℕ → ℕ → ℕ) (c : ColourComponent) (a b : ℕ)
     → (let f = p.geometry.chroma_format in
     a < block_width f c
@@ -134,7 +134,7 @@ placed_where_formed p planes bytes col row r rule c a b la lb =
     rw (part_is f rule col row c) (placed_inside (part_room p (lengths_of planes) bytes col row r c) (rule c) (planes c) refl a b la lb)
 
 -- and nothing else changes
-pub placed_elsewhere : (p : FrameBuffer) (planes : Samples) (bytes col row : ℕ) → Placeable p (lengths_of planes) bytes col row
+pub placed_elsewhere : (p : FrameSides) (planes : Samples) (bytes col row : ℕ) → Placeable p (lengths_of planes) bytes col row
     → (rule : ColourComponent → ℕ → ℕ → ℕ) (c : ColourComponent) (i : ℕ)
     → (let f = p.geometry.chroma_format in
     ((a b : ℕ) → a < block_width f c → b < block_height f c → (first_row f c row + b) * (plane_of p c).width + (first_column f c col + a) ≡ i → ⊥)

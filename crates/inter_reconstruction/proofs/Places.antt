@@ -14,7 +14,7 @@ use Rattle.forming_predictions.specs.Refusals.{plane_fits, side_fits}
 use Rattle.forming_predictions.proofs.Refusals.{PlaneRight, plane_right}
 use Rattle.pmv.specs.declared.kinds.ChromaFormat.{ChromaFormat}
 use Rattle.pmv.specs.declared.kinds.ChromaFormat.TheVariants.{Yuv420, Yuv422, Yuv444}
-use Rattle.inter_reconstruction.specs.declared.frames.FrameBuffer.{FrameBuffer}
+use Rattle.inter_reconstruction.specs.declared.frames.FrameSides.{FrameSides}
 use Rattle.inter_reconstruction.specs.Components.{ColourComponent, luma, cb, cr, columns_of, lines_of, block_width, block_height, block_bytes, macroblock_bytes}
 use Rattle.inter_reconstruction.specs.Frames.{Samples, samples_of, plane_of}
 use Rattle.inter_reconstruction.specs.Macroblock.{first_column, first_row}
@@ -78,7 +78,7 @@ in_grid : (k n size : ℕ) → k < n → k * size + size ≤ n * size
 in_grid k n size h = omega (arith, mul-le-mul_right size h, suc-mul k size)
 
 -- ---- a component's part lies in its plane
-module _ (p : FrameBuffer) (n : ColourComponent → ℕ) (bytes col row : ℕ) (r : Placeable p n bytes col row) (c : ColourComponent) where
+module _ (p : FrameSides) (n : ColourComponent → ℕ) (bytes col row : ℕ) (r : Placeable p n bytes col row) (c : ColourComponent) where
   abbrev format : ChromaFormat
   format = p.geometry.chroma_format
 
@@ -140,7 +140,7 @@ module _ (p : FrameBuffer) (n : ColourComponent → ℕ) (bytes col row : ℕ) (
       }
 
 -- ---- the same by the sides of a part, as the code knows them
-module _ (p : FrameBuffer) (c : ColourComponent) (w h : ℕ) (ew : w ≡ block_width p.geometry.chroma_format c) (eh : h ≡ block_height p.geometry.chroma_format c) where
+module _ (p : FrameSides) (c : ColourComponent) (w h : ℕ) (ew : w ≡ block_width p.geometry.chroma_format c) (eh : h ≡ block_height p.geometry.chroma_format c) where
   pub room_as : (n : ColourComponent → ℕ) (bytes col row m : ℕ) → Placeable p n bytes col row → m ≡ w * h
       → Room (col * w) (row * h) w h (plane_of p c).width (n c) m
   room_as n bytes col row m r e =
@@ -165,7 +165,7 @@ module _ (f : ChromaFormat) (w h : ℕ) (ew : w ≡ block_width f cb) (eh : h �
       rw (k, ew, eh)
 
 -- ---- all three components
-pub planes_are : (p : FrameBuffer) (col row : ℕ) (bytes : List ℕ) (planes : Samples) (y b r : List ℕ)
+pub planes_are : (p : FrameSides) (col row : ℕ) (bytes : List ℕ) (planes : Samples) (y b r : List ℕ)
     → y ≡ placed p col row bytes planes luma
     → b ≡ placed p col row bytes planes cb
     → r ≡ placed p col row bytes planes cr

@@ -27,7 +27,7 @@ use Rattle.forming_predictions.specs.Forming.{block_of, predicted_block}
 use Rattle.forming_predictions.specs.Refusals.{position_fits, block_side_fits, block_refusal, last_block}
 use Rattle.forming_predictions.proofs.Blocks.{block_row}
 use Rattle.forming_predictions.specs.declared.FormingRefusal.{FormingRefusal}
-use Rattle.forming_predictions.specs.declared.ReferencePlane.{ReferencePlane}
+use Rattle.forming_predictions.specs.declared.PlaneSides.{PlaneSides}
 use Rattle.inter_reconstruction.specs.declared.motion.MotionVectorPel.{MotionVectorPel}
 use Rattle.inter_reconstruction.specs.declared.motion.FieldVector.{FieldVector}
 use Rattle.inter_reconstruction.specs.declared.motion.DirectionMotion.TheVariants.{Frame, Field}
@@ -35,7 +35,7 @@ use Rattle.inter_reconstruction.specs.declared.motion.FieldVectorPair.{FieldVect
 use Rattle.inter_reconstruction.specs.Motion.{field_vector_of}
 use Rattle.inter_reconstruction.specs.Frames.{PlaneReading, read_plane}
 use Rattle.inter_reconstruction.specs.Macroblock.{field_sample, direction_sample, rectangle}
-use Rattle.inter_reconstruction.specs.inner.Blocks.{PlaneFits, BlockAt, FieldRows, field_row, interleaved_cell, field_halves, forward_bytes}
+use Rattle.inter_reconstruction.specs.inner.Blocks.{PlaneFits, AreaFits, FieldRows, field_row, interleaved_cell, field_halves, forward_bytes}
 
 -- its length
 pub rectangle_length : (w h : ℕ) (rule : ℕ → ℕ → ℕ) (x y : ℕ) → length (rectangle w h rule x y) ≡ w * h
@@ -57,19 +57,20 @@ position_yes : (n : ℕ) → n ≤ 16368 → position_fits last_block (pos n) �
 unfolding position_fits
 position_yes n p = rw (yes_le (negsuc 32767) (pos n) (omega arith), yes_le (pos n) (pos 32767) (omega arith))
 
-pub block_accepted : (p : ReferencePlane) (d : List ℕ) (x y w h n : ℕ)
+pub block_accepted : (p : PlaneSides) (d : List ℕ) (x y w h n : ℕ)
     → PlaneFits p d
-    → BlockAt x y w h n
+    → AreaFits x y w h
+    → n ≡ w * h
     → block_refusal p.width p.height (length d) (pos x) (pos y) w h n ≡ None
 unfolding block_refusal
-block_accepted p d x y w h n f b =
+block_accepted p d x y w h n f b e =
     rw (
       f,
       side_yes w b.some b.wide,
       side_yes h b.tall b.high,
       position_yes x b.left,
       position_yes y b.top,
-      eq-eqb n (w * h) b.count,
+      eq-eqb n (w * h) e,
     )
 
 -- and so the answer is no refusal, and the block is written
@@ -81,13 +82,13 @@ pub block_written : {A : Type 0} (r : Result Unit FormingRefusal) (n : Option Fo
 block_written r n o new old e z w = w ∙ rw (e, z)
 
 -- ---- which are the rows of the frame, or the lines of a field
-pub rows_are : (p : ReferencePlane) (d : List ℕ) (v : MotionVectorPel) (w h x y : ℕ)
+pub rows_are : (p : PlaneSides) (d : List ℕ) (v : MotionVectorPel) (w h x y : ℕ)
     → predicted_block rounded (sample_at frame p.width p.height d) w h (pos x) (pos y) v.horizontal v.vertical
     ≡ rectangle w h (direction_sample rounded (read_plane p d) (Frame v)) x y
 unfolding block_of rectangle direction_sample
 rows_are p d v w h x y = refl
 
-pub lines_are : (p : ReferencePlane) (d : List ℕ) (u : FieldVector) (w h x y : ℕ)
+pub lines_are : (p : PlaneSides) (d : List ℕ) (u : FieldVector) (w h x y : ℕ)
     → predicted_block rounded (sample_at (field u.reference_field) p.width p.height d) w h (pos x) (pos y) u.vector.horizontal u.vector.vertical
     ≡ rectangle w h (field_sample rounded (read_plane p d) u) x y
 unfolding block_of rectangle field_sample

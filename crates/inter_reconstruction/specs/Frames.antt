@@ -1,9 +1,10 @@
 -- A frame, by component: the sides of its planes, and what is read of them.
 -- The scope (docs/SCOPE.md): planes carry their own sides, and these say what is read. Nothing here is the standard's.
-use Rattle.std.specs.Prelude.{List, ℕ, ℤ, length, Option, Some, None}
+use Rattle.std.specs.Prelude.{List, [], ℕ, ℤ, length, Option, Some, None}
 use Rattle.forming_predictions.specs.Lines.{Lines, sample_at}
-use Rattle.forming_predictions.specs.declared.ReferencePlane.{ReferencePlane}
+use Rattle.forming_predictions.specs.declared.PlaneSides.{PlaneSides}
 use Rattle.inter_reconstruction.specs.Components.{ColourComponent, luma, cb, cr}
+use Rattle.inter_reconstruction.specs.declared.frames.FrameSides.{FrameSides}
 use Rattle.inter_reconstruction.specs.declared.frames.FrameBuffer.{FrameBuffer}
 
 -- the samples of each component's plane, row after row
@@ -19,7 +20,7 @@ abbrev pub lengths_of : Samples → ColourComponent → ℕ
 lengths_of s c = length (s c)
 
 -- the sides of a component's plane
-abbrev pub plane_of : FrameBuffer → ColourComponent → ReferencePlane
+abbrev pub plane_of : FrameSides → ColourComponent → PlaneSides
 plane_of b luma = b.y
 plane_of b cb = b.cb
 plane_of b cr = b.cr
@@ -28,14 +29,37 @@ plane_of b cr = b.cr
 abbrev pub PlaneReading : Type 0
 PlaneReading = Lines → ℤ → ℤ → ℕ
 
-abbrev pub read_plane : ReferencePlane → List ℕ → PlaneReading
+abbrev pub read_plane : PlaneSides → List ℕ → PlaneReading
 read_plane p samples l = sample_at l p.width p.height samples
 
 -- a frame's planes
-abbrev pub read_frame : FrameBuffer → Samples → ColourComponent → PlaneReading
+abbrev pub read_frame : FrameSides → Samples → ColourComponent → PlaneReading
 read_frame b s c = read_plane (plane_of b c) (s c)
 
 -- a reference's; of one that is absent nothing is ever read
-abbrev pub read_reference : Option FrameBuffer → Samples → ColourComponent → PlaneReading
+abbrev pub read_reference : Option FrameSides → Samples → ColourComponent → PlaneReading
 read_reference None s c = λ (l : Lines) (x y : ℤ). 0
 read_reference (Some b) s c = read_frame b s c
+
+-- ---- a frame as a call is given it, with its samples (src/frames.rt)
+
+abbrev pub sides_of : FrameBuffer → FrameSides
+sides_of b = record { geometry = b.geometry; y = b.y.sides; cb = b.cb.sides; cr = b.cr.sides }
+
+abbrev pub samples_in : FrameBuffer → Samples
+samples_in b = samples_of b.y.samples.now b.cb.samples.now b.cr.samples.now
+
+-- a reference's, if it is there
+abbrev pub reference_sides : Option FrameBuffer → Option FrameSides
+reference_sides None = None
+reference_sides (Some b) = Some (sides_of b)
+
+abbrev pub reference_samples : Option FrameBuffer → Samples
+reference_samples None = λ (c : ColourComponent). []
+reference_samples (Some b) = samples_in b
+
+abbrev pub reference_lengths : Option FrameBuffer → ColourComponent → ℕ
+reference_lengths r = lengths_of (reference_samples r)
+
+abbrev pub reference_reading : Option FrameBuffer → ColourComponent → PlaneReading
+reference_reading r = read_reference (reference_sides r) (reference_samples r)

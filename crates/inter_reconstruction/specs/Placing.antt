@@ -9,7 +9,7 @@ use Rattle.inter_reconstruction.specs.Frames.{Samples, plane_of}
 use Rattle.inter_reconstruction.specs.Macroblock.{column_at, row_at, first_column, first_row}
 use Rattle.inter_reconstruction.specs.Refusals.{every_component, planes_fit}
 use Rattle.inter_reconstruction.specs.declared.frames.FrameGeometry.{FrameGeometry}
-use Rattle.inter_reconstruction.specs.declared.frames.FrameBuffer.{FrameBuffer}
+use Rattle.inter_reconstruction.specs.declared.frames.FrameSides.{FrameSides}
 use Rattle.inter_reconstruction.specs.declared.placing.PlacingRefusal.{PlacingRefusal}
 use Rattle.inter_reconstruction.specs.declared.placing.PlacingRefusal.TheVariants.{OutsideDomain, WrongLength, IllFormed}
 
@@ -42,7 +42,7 @@ abbrev pub placed_part : ChromaFormat → ColourComponent → ℕ → ℕ → �
 placed_part f c width col row bytes plane = stored (place_in f c width col row) (part_of f c bytes) plane
 
 -- a picture's planes with the macroblock
-abbrev pub placed : FrameBuffer → ℕ → ℕ → List ℕ → Samples → Samples
+abbrev pub placed : FrameSides → ℕ → ℕ → List ℕ → Samples → Samples
 placed p col row bytes planes c =
     placed_part p.geometry.chroma_format c (plane_of p c).width col row bytes (planes c)
 
@@ -66,7 +66,7 @@ abbrev pub whole_sides : FrameGeometry → Bool
 whole_sides g = whole_side g.width && whole_side g.height
 
 -- a component's plane has the sides that the picture's sides and format give it
-abbrev pub plane_sides_fit : FrameBuffer → ColourComponent → Bool
+abbrev pub plane_sides_fit : FrameSides → ColourComponent → Bool
 plane_sides_fit p c =
     eqb (plane_of p c).width (columns_of p.geometry.chroma_format c p.geometry.width)
     && eqb (plane_of p c).height (lines_of p.geometry.chroma_format c p.geometry.height)
@@ -76,15 +76,15 @@ abbrev pub cell_inside : FrameGeometry → ℕ → ℕ → Bool
 cell_inside g col row = ltb col (g.width / 16) && ltb row (g.height / 16)
 
 -- the picture's sides and its planes' are in the domain, and each plane has as many samples as its sides say
-unfoldable pub picture_fits : FrameBuffer → (ColourComponent → ℕ) → Bool
+unfoldable pub picture_fits : FrameSides → (ColourComponent → ℕ) → Bool
 picture_fits p n = declared_fit p.geometry && planes_fit p n
 
 -- its sides are whole, and its planes fit them
-unfoldable pub well_formed : FrameBuffer → Bool
+unfoldable pub well_formed : FrameSides → Bool
 well_formed p = whole_sides p.geometry && every_component (plane_sides_fit p)
 
 -- the picture with the lengths of its planes, how many bytes there are to place, and the cell
-abbrev pub placing_refusal : FrameBuffer → (ColourComponent → ℕ) → ℕ → ℕ → ℕ → Option PlacingRefusal
+abbrev pub placing_refusal : FrameSides → (ColourComponent → ℕ) → ℕ → ℕ → ℕ → Option PlacingRefusal
 placing_refusal p n bytes col row =
     or_else (cause (not (picture_fits p n)) OutsideDomain)
     (or_else (cause (not (well_formed p && cell_inside p.geometry col row)) IllFormed)

@@ -8,7 +8,7 @@ use Rattle.pmv.specs.Kinds.{chroma_number}
 use Rattle.inter_reconstruction.specs.Components.{ColourComponent, luma, cb, cr, macroblock_bytes}
 use Rattle.inter_reconstruction.specs.Frames.{plane_of}
 use Rattle.inter_reconstruction.specs.declared.frames.FrameGeometry.{FrameGeometry}
-use Rattle.inter_reconstruction.specs.declared.frames.FrameBuffer.{FrameBuffer}
+use Rattle.inter_reconstruction.specs.declared.frames.FrameSides.{FrameSides}
 use Rattle.inter_reconstruction.specs.declared.motion.Uses.{Uses}
 use Rattle.inter_reconstruction.specs.declared.motion.Uses.TheVariants.{Forward, Backward, Both}
 use Rattle.inter_reconstruction.specs.declared.macroblock.PredictionRefusal.{PredictionRefusal}
@@ -41,7 +41,7 @@ abbrev pub every_component : (ColourComponent → Bool) → Bool
 every_component t = t luma && (t cb && t cr)
 
 -- sides in the domain, and as many samples as they say
-unfoldable pub planes_fit : FrameBuffer → (ColourComponent → ℕ) → Bool
+unfoldable pub planes_fit : FrameSides → (ColourComponent → ℕ) → Bool
 planes_fit b n = every_component (λ (c : ColourComponent). plane_fits (plane_of b c).width (plane_of b c).height (n c))
 
 -- ---- what is refused
@@ -49,25 +49,25 @@ planes_fit b n = every_component (λ (c : ColourComponent). plane_fits (plane_of
 abbrev pub cell_refusal : ℕ → ℕ → Option PredictionRefusal
 cell_refusal col row = cause (too_far col || too_far row) CellTooFar
 
-abbrev pub missing : PredictionRefusal → Option FrameBuffer → Option PredictionRefusal
+abbrev pub missing : PredictionRefusal → Option FrameSides → Option PredictionRefusal
 missing reason None = Some reason
 missing reason (Some b) = None
 
-abbrev pub geometry_refusal : FrameGeometry → Option FrameBuffer → Option PredictionRefusal
+abbrev pub geometry_refusal : FrameGeometry → Option FrameSides → Option PredictionRefusal
 geometry_refusal dest None = None
 geometry_refusal dest (Some b) = cause (not (same_geometry b.geometry dest)) OtherGeometry
 
-abbrev pub planes_refusal : Option FrameBuffer → (ColourComponent → ℕ) → Option PredictionRefusal
+abbrev pub planes_refusal : Option FrameSides → (ColourComponent → ℕ) → Option PredictionRefusal
 planes_refusal None n = None
 planes_refusal (Some b) n = cause (not (planes_fit b n)) OutsideDomain
 
 -- of one reference; `reason` is that of its absence
-abbrev pub one_refusal : PredictionRefusal → FrameGeometry → Option FrameBuffer → (ColourComponent → ℕ) → Option PredictionRefusal
+abbrev pub one_refusal : PredictionRefusal → FrameGeometry → Option FrameSides → (ColourComponent → ℕ) → Option PredictionRefusal
 one_refusal reason dest r n = or_else (missing reason r) (or_else (geometry_refusal dest r) (planes_refusal r n))
 
 -- Where both directions are used, both references are there or both absent (Motion.antt, `remaining`): 17 is backward motion's alone
 -- (proofs/Directions.antt, `backward_only`).
-abbrev pub references_refusal : FrameGeometry → Option FrameBuffer → (ColourComponent → ℕ) → Option FrameBuffer → (ColourComponent → ℕ) → Uses → Option PredictionRefusal
+abbrev pub references_refusal : FrameGeometry → Option FrameSides → (ColourComponent → ℕ) → Option FrameSides → (ColourComponent → ℕ) → Uses → Option PredictionRefusal
 references_refusal dest f n b k (Forward d) = one_refusal ForwardMissing dest f n
 references_refusal dest f n b k (Backward e) = one_refusal BackwardMissing dest b k
 references_refusal dest f n b k (Both d e) =
@@ -79,7 +79,7 @@ references_refusal dest f n b k (Both d e) =
     (planes_refusal b k)))))
 
 -- the destination's geometry, the output's length, the references with the lengths of their planes, which of them are used, and the cell
-abbrev pub prediction_refusal : FrameGeometry → ℕ → Option FrameBuffer → (ColourComponent → ℕ) → Option FrameBuffer → (ColourComponent → ℕ) → Uses → ℕ → ℕ → Option PredictionRefusal
+abbrev pub prediction_refusal : FrameGeometry → ℕ → Option FrameSides → (ColourComponent → ℕ) → Option FrameSides → (ColourComponent → ℕ) → Uses → ℕ → ℕ → Option PredictionRefusal
 prediction_refusal dest out f n b k u col row =
     or_else (cell_refusal col row)
     (or_else (cause (not (eqb out (macroblock_bytes dest.chroma_format))) WrongLength)

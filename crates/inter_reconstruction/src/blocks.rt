@@ -7,43 +7,56 @@ ghost use Rattle.inter_reconstruction.specs.declared.motion.DirectionMotion.TheV
 ghost use Rattle.inter_reconstruction.specs.declared.motion.Uses.TheVariants.{Both};
 ghost use Rattle.inter_reconstruction.specs.Frames.{read_plane};
 ghost use Rattle.inter_reconstruction.specs.Macroblock.{field_sample, direction_sample, used_sample, rectangle};
-ghost use Rattle.inter_reconstruction.specs.inner.Blocks.{PlaneFits, BlockAt, FieldRows, HalvesAt, field_halves, interleaved_cell, forward_bytes};
+ghost use Rattle.inter_reconstruction.specs.inner.Blocks.{PlaneFits, AreaFits, FieldRows, field_halves, interleaved_cell, forward_bytes};
 
 use crate::motion::{DirectionMotion, FieldVector, FieldVectorPair, MotionVectorPel};
 use crate::samples::copy_samples;
 use combine_predictions::{
     PredictionDirection, average_predictions, combine_directional_predictions,
 };
-use forming_predictions::{
-    BlockSize, FieldReference, ReferencePlane, predict_block, predict_field_block,
-};
+use forming_predictions::{BlockSize, FieldReference, ReferencePlane, predict_block};
+
+/// A block's place in a plane, and its sides. `y` and `height` count rows, or the lines of a field.
+#[derive(Clone, Copy)]
+pub(crate) struct Area {
+    pub(crate) x: usize,
+    pub(crate) y: usize,
+    pub(crate) width: usize,
+    pub(crate) height: usize,
+    ghost fits: { AreaFits x y width height },
+}
+
+impl Area {
+    /// How many samples it has.
+    pub(crate) fn bytes(self) -> usize
+        ensures { result ≡ self.width * self.height }
+    {
+        self.width * self.height
+    }
+
+    fn size(self) -> BlockSize
+        ensures { (result.width ≡ self.width) × (result.height ≡ self.height) }
+    {
+        BlockSize {
+            width: self.width,
+            height: self.height,
+        }
+    }
+}
 
 // The calls below refuse nothing of what they are given here, and their answers are let go: with an `unwrap`, which asks for nothing when it
 // runs, a field's block took 14 instructions more.
 
 /// A block of the frame's rows.
-fn predict_rows(
-    plane: ReferencePlane,
-    samples: &[u8],
-    x: usize,
-    y: usize,
-    width: usize,
-    height: usize,
-    v: MotionVectorPel,
-    out: &mut [u8],
-)
-    requires { PlaneFits plane samples.now × BlockAt x y width height (length out.old) }
-    ensures { out.new ≡ rectangle width height (direction_sample rounded (read_plane plane samples.now) (Frame v)) x y }
+fn predict_rows(plane: ReferencePlane<'_>, at: Area, v: MotionVectorPel, out: &mut [u8])
+    requires { PlaneFits plane.sides plane.samples.now × (length out.old ≡ at.width * at.height) }
+    ensures { out.new ≡ rectangle at.width at.height (direction_sample rounded (read_plane plane.entry.sides plane.entry.samples.now) (Frame v)) at.x at.y }
 {
     let _ = predict_block(
         plane,
-        samples,
-        x as i32,
-        y as i32,
-        BlockSize {
-            width: width,
-            height: height,
-        },
+        at.x as i32,
+        at.y as i32,
+        at.size(),
         v.horizontal,
         v.vertical,
         out,
@@ -51,33 +64,20 @@ fn predict_rows(
 }
 
 /// A block of a field's lines.
-fn predict_lines(
-    plane: ReferencePlane,
-    samples: &[u8],
-    x: usize,
-    line: usize,
-    width: usize,
-    height: usize,
-    u: FieldVector,
-    out: &mut [u8],
-)
-    requires { PlaneFits plane samples.now × BlockAt x line width height (length out.old) }
-    ensures { out.new ≡ rectangle width height (field_sample rounded (read_plane plane samples.now) u) x line }
+fn predict_lines(plane: ReferencePlane<'_>, at: Area, u: FieldVector, out: &mut [u8])
+    requires { PlaneFits plane.sides plane.samples.now × (length out.old ≡ at.width * at.height) }
+    ensures { out.new ≡ rectangle at.width at.height (field_sample rounded (read_plane plane.entry.sides plane.entry.samples.now) u) at.x at.y }
 {
     let v = u.vector;
     let reference_field = u.reference_field;
-    let _ = predict_field_block(
+    let _ = predict_block(
         FieldReference {
             plane: plane,
             parity: reference_field,
         },
-        samples,
-        x as i32,
-        line as i32,
-        BlockSize {
-            width: width,
-            height: height,
-        },
+        at.x as i32,
+        at.y as i32,
+        at.size(),
         v.horizontal,
         v.vertical,
         out,
@@ -113,77 +113,49 @@ fn interleave(halves: &[u8], width: usize, half: usize, out: &mut [u8])
 
 /// Both fields' lines, one block after the other. As there is one call for both, it is inlined, and what is the same for both fields is tested
 /// once.
-fn predict_halves(
-    plane: ReferencePlane,
-    samples: &[u8],
-    x: usize,
-    line: usize,
-    width: usize,
-    height: usize,
-    pair: FieldVectorPair,
-    out: &mut [u8],
-)
-    requires { PlaneFits plane samples.now × HalvesAt x line width height (length out.old) }
-    ensures { out.new ≡ field_halves (read_plane plane samples.now) pair width height x line }
+fn predict_halves(plane: ReferencePlane<'_>, at: Area, pair: FieldVectorPair, out: &mut [u8])
+    requires { PlaneFits plane.sides plane.samples.now × (length out.old ≡ at.width * at.height + at.width * at.height) }
+    ensures { out.new ≡ field_halves (read_plane plane.entry.sides plane.entry.samples.now) pair at.width at.height at.x at.y }
 {
-    let n = width * height;
+    let n = at.bytes();
     for (f, &u) in [pair.top, pair.bottom].iter().enumerate() {
         let a = f * n;
         let e = a + n;
-        predict_lines(plane, samples, x, line, width, height, u, &mut out[a..e]);
+        predict_lines(plane, at, u, &mut out[a..e]);
     }
 }
 
 /// The block of a direction whose fields have vectors of their own: each field's lines, then interleaved.
-fn predict_fields(
-    plane: ReferencePlane,
-    samples: &[u8],
-    x: usize,
-    y: usize,
-    width: usize,
-    height: usize,
-    pair: FieldVectorPair,
-    out: &mut [u8],
-)
-    requires { PlaneFits plane samples.now × BlockAt x y width height (length out.old) × FieldRows y height }
-    ensures { out.new ≡ rectangle width height (direction_sample rounded (read_plane plane samples.now) (Field pair)) x y }
+fn predict_fields(plane: ReferencePlane<'_>, at: Area, pair: FieldVectorPair, out: &mut [u8])
+    requires { PlaneFits plane.sides plane.samples.now × (length out.old ≡ at.width * at.height) × FieldRows at.y at.height }
+    ensures { out.new ≡ rectangle at.width at.height (direction_sample rounded (read_plane plane.entry.sides plane.entry.samples.now) (Field pair)) at.x at.y }
 {
     // fixed memory: no heap in the layers, and no block is larger than 256
     let mut halves = [0u8; 256];
-    let n = width * height;
-    let half = height / 2;
-    predict_halves(
-        plane,
-        samples,
-        x,
-        y / 2,
-        width,
-        half,
-        pair,
-        &mut halves[..n],
-    );
-    interleave(&halves[..n], width, half, out);
+    let n = at.bytes();
+    let lines = Area {
+        x: at.x,
+        y: at.y / 2,
+        width: at.width,
+        height: at.height / 2,
+    };
+    predict_halves(plane, lines, pair, &mut halves[..n]);
+    interleave(&halves[..n], lines.width, lines.height, out);
 }
 
 /// The block of one direction.
 pub(crate) fn predict_direction(
-    plane: ReferencePlane,
-    samples: &[u8],
-    x: usize,
-    y: usize,
-    width: usize,
-    height: usize,
+    plane: ReferencePlane<'_>,
+    at: Area,
     motion: DirectionMotion,
     out: &mut [u8],
 )
-    requires { PlaneFits plane samples.now × BlockAt x y width height (length out.old) × FieldRows y height }
-    ensures { out.new ≡ rectangle width height (direction_sample rounded (read_plane plane samples.now) motion) x y }
+    requires { PlaneFits plane.sides plane.samples.now × (length out.old ≡ at.width * at.height) × FieldRows at.y at.height }
+    ensures { out.new ≡ rectangle at.width at.height (direction_sample rounded (read_plane plane.entry.sides plane.entry.samples.now) motion) at.x at.y }
 {
     match motion {
-        DirectionMotion::Frame(v) => predict_rows(plane, samples, x, y, width, height, v, out),
-        DirectionMotion::Field(pair) => predict_fields(
-            plane, samples, x, y, width, height, pair, out,
-        ),
+        DirectionMotion::Frame(v) => predict_rows(plane, at, v, out),
+        DirectionMotion::Field(pair) => predict_fields(plane, at, pair, out),
     }
 }
 
@@ -211,44 +183,21 @@ pub(crate) fn store_chosen(direction: PredictionDirection, block: &[u8], out: &m
 
 /// The block of a macroblock with two directions: each predicted into a local block, then averaged.
 pub(crate) fn predict_two(
-    forward: ReferencePlane,
-    forward_samples: &[u8],
+    forward: ReferencePlane<'_>,
     forward_motion: DirectionMotion,
-    backward: ReferencePlane,
-    backward_samples: &[u8],
+    backward: ReferencePlane<'_>,
     backward_motion: DirectionMotion,
-    x: usize,
-    y: usize,
-    width: usize,
-    height: usize,
+    at: Area,
     out: &mut [u8],
 )
-    requires { PlaneFits forward forward_samples.now × PlaneFits backward backward_samples.now × BlockAt x y width height (length out.old) × FieldRows y height }
-    ensures { out.new ≡ rectangle width height (used_sample rounded (read_plane forward forward_samples.now) (read_plane backward backward_samples.now) (Both forward_motion backward_motion)) x y }
+    requires { PlaneFits forward.sides forward.samples.now × PlaneFits backward.sides backward.samples.now × (length out.old ≡ at.width * at.height) × FieldRows at.y at.height }
+    ensures { out.new ≡ rectangle at.width at.height (used_sample rounded (read_plane forward.entry.sides forward.entry.samples.now) (read_plane backward.entry.sides backward.entry.samples.now) (Both forward_motion backward_motion)) at.x at.y }
 {
     // fixed memory, as above
     let mut first = [0u8; 256];
     let mut second = [0u8; 256];
-    let n = width * height;
-    predict_direction(
-        forward,
-        forward_samples,
-        x,
-        y,
-        width,
-        height,
-        forward_motion,
-        &mut first[..n],
-    );
-    predict_direction(
-        backward,
-        backward_samples,
-        x,
-        y,
-        width,
-        height,
-        backward_motion,
-        &mut second[..n],
-    );
+    let n = at.bytes();
+    predict_direction(forward, at, forward_motion, &mut first[..n]);
+    predict_direction(backward, at, backward_motion, &mut second[..n]);
     let _ = average_predictions(&first[..n], &second[..n], out);
 }

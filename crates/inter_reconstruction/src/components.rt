@@ -1,19 +1,47 @@
 //! ISO/IEC 13818-2, 7.6.4 to 7.6.7: the three components of a macroblock, of one direction or of two.
-ghost use Rattle.std.specs.Prelude.{◌≡◌, ◌++◌, ◌+◌, length};
+ghost use Rattle.std.specs.Prelude.{◌≡◌, ◌++◌, ◌+◌, ◌*◌, ◌≤◌, length};
 ghost use Rattle.forming_predictions.specs.Means.{rounded};
 ghost use Rattle.inter_reconstruction.specs.declared.motion.Uses.TheVariants.{Both};
-ghost use Rattle.inter_reconstruction.specs.Components.{ColourComponent};
-ghost use Rattle.inter_reconstruction.specs.Frames.{read_plane, samples_of, read_frame};
-ghost use Rattle.inter_reconstruction.specs.Macroblock.{predicted};
-ghost use Rattle.inter_reconstruction.specs.inner.Blocks.{PlaneFits, FieldRows, HalvesAt};
+ghost use Rattle.inter_reconstruction.specs.Components.{ColourComponent, block_width, block_height};
+ghost use Rattle.inter_reconstruction.specs.Frames.{read_frame, sides_of, samples_in};
+ghost use Rattle.inter_reconstruction.specs.Macroblock.{first_column, first_row, predicted};
+ghost use Rattle.inter_reconstruction.specs.inner.Blocks.{FieldRows};
 ghost use Rattle.inter_reconstruction.specs.inner.Planes.{FrameFits, CellFits, BlocksFit, directed_part, directed, chroma_blocks};
 
-use crate::blocks::{predict_direction, predict_two, store_chosen};
+use crate::blocks::{Area, predict_direction, predict_two, store_chosen};
 use crate::frames::{FrameBuffer, chroma_mb_extent};
 use crate::motion::DirectionMotion;
 use combine_predictions::PredictionDirection;
-use forming_predictions::ReferencePlane;
 use pmv::kinds::ChromaFormat;
+
+/// The place of a macroblock's luminance, 16 × 16.
+fn luma_area(mb_col: usize, mb_row: usize) -> Area
+    requires { (mb_col ≤ 1023) × (mb_row ≤ 1023) }
+    ensures place { (result.x ≡ mb_col * 16) × (result.y ≡ mb_row * 16) }
+    ensures sides { (result.width ≡ 16) × (result.height ≡ 16) }
+{
+    Area {
+        x: mb_col * 16,
+        y: mb_row * 16,
+        width: 16,
+        height: 16,
+    }
+}
+
+/// The place of its Cb, and of its Cr.
+fn chroma_area(chroma_format: ChromaFormat, mb_col: usize, mb_row: usize) -> Area
+    requires { (mb_col ≤ 1023) × (mb_row ≤ 1023) }
+    ensures place { (result.x ≡ first_column chroma_format ColourComponent.cb mb_col) × (result.y ≡ first_row chroma_format ColourComponent.cb mb_row) }
+    ensures sides { (result.width ≡ block_width chroma_format ColourComponent.cb) × (result.height ≡ block_height chroma_format ColourComponent.cb) }
+{
+    let size = chroma_mb_extent(chroma_format);
+    Area {
+        x: mb_col * size.width,
+        y: mb_row * size.height,
+        width: size.width,
+        height: size.height,
+    }
+}
 
 // ---- the three components of one direction
 
@@ -21,42 +49,24 @@ use pmv::kinds::ChromaFormat;
 fn predict_blocks(
     motion: DirectionMotion,
     chroma_format: ChromaFormat,
-    frame: FrameBuffer,
-    y: &[u8],
-    cb: &[u8],
-    cr: &[u8],
+    frame: FrameBuffer<'_>,
     mb_col: usize,
     mb_row: usize,
     y_block: &mut [u8],
     cb_block: &mut [u8],
     cr_block: &mut [u8],
 )
-    requires { FrameFits frame (samples_of y.now cb.now cr.now) × BlocksFit chroma_format mb_col mb_row (length y_block.old) (length cb_block.old) (length cr_block.old) }
-    ensures y_block_at_exit { y_block.new ≡ directed_part chroma_format (read_frame frame (samples_of y.now cb.now cr.now)) motion ColourComponent.luma mb_col mb_row }
-    ensures cb_block_at_exit { cb_block.new ≡ directed_part chroma_format (read_frame frame (samples_of y.now cb.now cr.now)) motion ColourComponent.cb mb_col mb_row }
-    ensures cr_block_at_exit { cr_block.new ≡ directed_part chroma_format (read_frame frame (samples_of y.now cb.now cr.now)) motion ColourComponent.cr mb_col mb_row }
+    requires { FrameFits (sides_of frame) (samples_in frame) × BlocksFit chroma_format mb_col mb_row (length y_block.old) (length cb_block.old) (length cr_block.old) }
+    ensures y_block_at_exit { y_block.new ≡ directed_part chroma_format (read_frame (sides_of frame.entry) (samples_in frame.entry)) motion ColourComponent.luma mb_col mb_row }
+    ensures cb_block_at_exit { cb_block.new ≡ directed_part chroma_format (read_frame (sides_of frame.entry) (samples_in frame.entry)) motion ColourComponent.cb mb_col mb_row }
+    ensures cr_block_at_exit { cr_block.new ≡ directed_part chroma_format (read_frame (sides_of frame.entry) (samples_in frame.entry)) motion ColourComponent.cr mb_col mb_row }
 {
-    let size = chroma_mb_extent(chroma_format);
-    let width = size.width;
-    let height = size.height;
+    let luma_at = luma_area(mb_col, mb_row);
+    let chroma_at = chroma_area(chroma_format, mb_col, mb_row);
     let chroma = motion.chroma(chroma_format);
-    let y_plane = frame.y;
-    let cb_plane = frame.cb;
-    let cr_plane = frame.cr;
-    let x = mb_col * width;
-    let line = mb_row * height;
-    predict_direction(
-        y_plane,
-        y,
-        mb_col * 16,
-        mb_row * 16,
-        16,
-        16,
-        motion,
-        y_block,
-    );
-    predict_direction(cb_plane, cb, x, line, width, height, chroma, cb_block);
-    predict_direction(cr_plane, cr, x, line, width, height, chroma, cr_block);
+    predict_direction(frame.y, luma_at, motion, y_block);
+    predict_direction(frame.cb, chroma_at, chroma, cb_block);
+    predict_direction(frame.cr, chroma_at, chroma, cr_block);
 }
 
 /// Writes the three blocks of the one direction that there is.
@@ -78,16 +88,13 @@ pub(crate) fn predict_from_one(
     direction: PredictionDirection,
     motion: DirectionMotion,
     chroma_format: ChromaFormat,
-    frame: FrameBuffer,
-    y: &[u8],
-    cb: &[u8],
-    cr: &[u8],
+    frame: FrameBuffer<'_>,
     mb_col: usize,
     mb_row: usize,
     out: &mut [u8],
 )
-    requires { FrameFits frame (samples_of y.now cb.now cr.now) × CellFits chroma_format mb_col mb_row (length out.old) }
-    ensures { out.new ≡ directed chroma_format (read_frame frame (samples_of y.now cb.now cr.now)) motion mb_col mb_row }
+    requires { FrameFits (sides_of frame) (samples_in frame) × CellFits chroma_format mb_col mb_row (length out.old) }
+    ensures { out.new ≡ directed chroma_format (read_frame (sides_of frame.entry) (samples_in frame.entry)) motion mb_col mb_row }
 {
     let size = chroma_mb_extent(chroma_format);
     let n = size.width * size.height;
@@ -99,9 +106,6 @@ pub(crate) fn predict_from_one(
         motion,
         chroma_format,
         frame,
-        y,
-        cb,
-        cr,
         mb_col,
         mb_row,
         &mut y_block,
@@ -116,56 +120,34 @@ pub(crate) fn predict_from_one(
 /// Both chrominance components, one after the other.
 fn predict_chroma(
     forward_motion: DirectionMotion,
-    forward_cb_plane: ReferencePlane,
-    forward_cb: &[u8],
-    forward_cr_plane: ReferencePlane,
-    forward_cr: &[u8],
+    forward: FrameBuffer<'_>,
     backward_motion: DirectionMotion,
-    backward_cb_plane: ReferencePlane,
-    backward_cb: &[u8],
-    backward_cr_plane: ReferencePlane,
-    backward_cr: &[u8],
-    x: usize,
-    y: usize,
-    width: usize,
-    height: usize,
+    backward: FrameBuffer<'_>,
+    at: Area,
     out: &mut [u8],
 )
-    requires plane_fits { PlaneFits forward_cb_plane forward_cb.now × PlaneFits forward_cr_plane forward_cr.now × PlaneFits backward_cb_plane backward_cb.now × PlaneFits backward_cr_plane backward_cr.now }
-    requires halves_at { HalvesAt x y width height (length out.old) × FieldRows y height }
-    ensures { let forward_cb_read = read_plane forward_cb_plane forward_cb.now in
-        let forward_cr_read = read_plane forward_cr_plane forward_cr.now in
-        let backward_cb_read = read_plane backward_cb_plane backward_cb.now in
-        let backward_cr_read = read_plane backward_cr_plane backward_cr.now in
-        let motion = Both forward_motion backward_motion in
-        out.new ≡ chroma_blocks forward_cb_read forward_cr_read backward_cb_read backward_cr_read motion width height x y }
+    requires frames_fit { FrameFits (sides_of forward) (samples_in forward) × FrameFits (sides_of backward) (samples_in backward) }
+    requires rows_fit { FieldRows at.y at.height × (length out.old ≡ at.width * at.height + at.width * at.height) }
+    ensures { let forward_read = read_frame (sides_of forward.entry) (samples_in forward.entry) in
+        let backward_read = read_frame (sides_of backward.entry) (samples_in backward.entry) in
+        out.new ≡ chroma_blocks forward_read backward_read (Both forward_motion backward_motion) at.width at.height at.x at.y }
 {
-    let n = width * height;
+    let n = at.bytes();
     let e = n + n;
     predict_two(
-        forward_cb_plane,
-        forward_cb,
+        forward.cb,
         forward_motion,
-        backward_cb_plane,
-        backward_cb,
+        backward.cb,
         backward_motion,
-        x,
-        y,
-        width,
-        height,
+        at,
         &mut out[0..n],
     );
     predict_two(
-        forward_cr_plane,
-        forward_cr,
+        forward.cr,
         forward_motion,
-        backward_cr_plane,
-        backward_cr,
+        backward.cr,
         backward_motion,
-        x,
-        y,
-        width,
-        height,
+        at,
         &mut out[n..e],
     );
 }
@@ -175,63 +157,32 @@ pub(crate) fn predict_from_two(
     forward_motion: DirectionMotion,
     backward_motion: DirectionMotion,
     chroma_format: ChromaFormat,
-    forward: FrameBuffer,
-    forward_y: &[u8],
-    forward_cb: &[u8],
-    forward_cr: &[u8],
-    backward: FrameBuffer,
-    backward_y: &[u8],
-    backward_cb: &[u8],
-    backward_cr: &[u8],
+    forward: FrameBuffer<'_>,
+    backward: FrameBuffer<'_>,
     mb_col: usize,
     mb_row: usize,
     out: &mut [u8],
 )
-    requires { FrameFits forward (samples_of forward_y.now forward_cb.now forward_cr.now) × FrameFits backward (samples_of backward_y.now backward_cb.now backward_cr.now) × CellFits chroma_format mb_col mb_row (length out.old) }
-    ensures { let forward_read = read_frame forward (samples_of forward_y.now forward_cb.now forward_cr.now) in
-        let backward_read = read_frame backward (samples_of backward_y.now backward_cb.now backward_cr.now) in
+    requires { FrameFits (sides_of forward) (samples_in forward) × FrameFits (sides_of backward) (samples_in backward) × CellFits chroma_format mb_col mb_row (length out.old) }
+    ensures { let forward_read = read_frame (sides_of forward.entry) (samples_in forward.entry) in
+        let backward_read = read_frame (sides_of backward.entry) (samples_in backward.entry) in
         out.new ≡ predicted rounded chroma_format forward_read backward_read (Both forward_motion backward_motion) mb_col mb_row }
 {
-    let size = chroma_mb_extent(chroma_format);
-    let width = size.width;
-    let height = size.height;
-    let forward_chroma = forward_motion.chroma(chroma_format);
-    let backward_chroma = backward_motion.chroma(chroma_format);
-    let forward_y_plane = forward.y;
-    let forward_cb_plane = forward.cb;
-    let forward_cr_plane = forward.cr;
-    let backward_y_plane = backward.y;
-    let backward_cb_plane = backward.cb;
-    let backward_cr_plane = backward.cr;
     let e = out.len();
     predict_two(
-        forward_y_plane,
-        forward_y,
+        forward.y,
         forward_motion,
-        backward_y_plane,
-        backward_y,
+        backward.y,
         backward_motion,
-        mb_col * 16,
-        mb_row * 16,
-        16,
-        16,
+        luma_area(mb_col, mb_row),
         &mut out[0..256],
     );
     predict_chroma(
-        forward_chroma,
-        forward_cb_plane,
-        forward_cb,
-        forward_cr_plane,
-        forward_cr,
-        backward_chroma,
-        backward_cb_plane,
-        backward_cb,
-        backward_cr_plane,
-        backward_cr,
-        mb_col * width,
-        mb_row * height,
-        width,
-        height,
+        forward_motion.chroma(chroma_format),
+        forward,
+        backward_motion.chroma(chroma_format),
+        backward,
+        chroma_area(chroma_format, mb_col, mb_row),
         &mut out[256..e],
     );
 }

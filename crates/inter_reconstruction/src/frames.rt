@@ -1,8 +1,9 @@
-//! Frames as the calls see them: numbers here, and the samples of the three planes passed beside them.
+//! Frames as the calls see them.
 ghost use Rattle.std.specs.Prelude.{◌≡◌};
 ghost use Rattle.inter_reconstruction.specs.Components.{block_width, block_height, cb};
+ghost use Rattle.inter_reconstruction.specs.Frames.{sides_of};
 
-use forming_predictions::{BlockSize, ReferencePlane};
+use forming_predictions::{BlockSize, PlaneSides, ReferencePlane};
 use pmv::kinds::ChromaFormat;
 
 /// What a frame declares.
@@ -13,13 +14,36 @@ pub struct FrameGeometry {
     pub chroma_format: ChromaFormat,
 }
 
-/// A frame: what it declares, and the sides that its planes have.
+/// A frame without its samples: what it declares, and the sides that its planes have.
 #[derive(Clone, Copy, Debug, PartialEq, Eq)]
-pub struct FrameBuffer {
+pub struct FrameSides {
     pub geometry: FrameGeometry,
-    pub y: ReferencePlane,
-    pub cb: ReferencePlane,
-    pub cr: ReferencePlane,
+    pub y: PlaneSides,
+    pub cb: PlaneSides,
+    pub cr: PlaneSides,
+}
+
+/// A frame that is read: what it declares, and its planes.
+#[derive(Clone, Copy, Debug, PartialEq, Eq)]
+pub struct FrameBuffer<'a> {
+    pub geometry: FrameGeometry,
+    pub y: ReferencePlane<'a>,
+    pub cb: ReferencePlane<'a>,
+    pub cr: ReferencePlane<'a>,
+}
+
+impl<'a> FrameBuffer<'a> {
+    /// The frame without its samples.
+    pub fn sides(self) -> FrameSides
+        ensures { result ≡ sides_of self.entry }
+    {
+        FrameSides {
+            geometry: self.geometry,
+            y: self.y.sides,
+            cb: self.cb.sides,
+            cr: self.cr.sides,
+        }
+    }
 }
 
 /// The sides of a macroblock's part in a chrominance plane.

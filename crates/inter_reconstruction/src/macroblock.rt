@@ -6,14 +6,14 @@ ghost use Rattle.forming_predictions.specs.Means.{rounded};
 ghost use Rattle.inter_reconstruction.specs.declared.motion.Uses.TheVariants.{Both};
 ghost use Rattle.inter_reconstruction.specs.declared.macroblock.PredictionRefusal.TheVariants.{BackwardMissing};
 ghost use Rattle.inter_reconstruction.specs.Motion.{wanted_by, uses_by, BackwardAlone};
-ghost use Rattle.inter_reconstruction.specs.Frames.{samples_of, read_frame, lengths_of, read_reference};
+ghost use Rattle.inter_reconstruction.specs.Frames.{samples_of, lengths_of, read_frame, sides_of, samples_in, reference_sides, reference_lengths, reference_reading};
 ghost use Rattle.inter_reconstruction.specs.Macroblock.{predicted};
 ghost use Rattle.inter_reconstruction.specs.Refusals.{prediction_number, same_geometry, planes_fit, one_refusal, references_refusal, prediction_refusal};
-ghost use Rattle.inter_reconstruction.specs.Answers.{accepted, directions_of, prediction_directions};
+ghost use Rattle.inter_reconstruction.specs.Answers.{accepted, directions_of, prediction_directions, refusal_among, refusal_from, prediction_from};
 ghost use Rattle.inter_reconstruction.specs.inner.Planes.{CellFits, directed, frame_refusal, frames_refusal, missing_in, destination_refusal};
 
 use crate::components::{predict_from_one, predict_from_two};
-use crate::frames::{FrameBuffer, FrameGeometry, chroma_mb_extent};
+use crate::frames::{FrameBuffer, FrameGeometry, FrameSides, chroma_mb_extent};
 use crate::motion::{DirectionMotion, DirectionVectors, Motion, UsedDirections, Uses};
 use combine_predictions::PredictionDirection;
 use forming_predictions::plane_fits;
@@ -60,13 +60,22 @@ fn same_geometry(a: FrameGeometry, b: FrameGeometry) -> bool
 }
 
 /// Each plane of a frame is in the domain: no side is too long, and it has as many samples as its sides say.
-pub fn planes_fit(frame: FrameBuffer, y: &[u8], cb: &[u8], cr: &[u8]) -> bool
+pub fn planes_fit(frame: FrameSides, y: &[u8], cb: &[u8], cr: &[u8]) -> bool
     ensures { result ≡ planes_fit frame (lengths_of (samples_of y.now cb.now cr.now)) }
 {
-    let y_plane = frame.y;
-    let cb_plane = frame.cb;
-    let cr_plane = frame.cr;
-    plane_fits(y_plane, y.len()) & (plane_fits(cb_plane, cb.len()) & plane_fits(cr_plane, cr.len()))
+    plane_fits(frame.y, y.len()) & (plane_fits(frame.cb, cb.len()) & plane_fits(frame.cr, cr.len()))
+}
+
+/// The same of a frame with its samples.
+fn frame_fits(frame: FrameBuffer<'_>) -> bool
+    ensures { result ≡ planes_fit (sides_of frame.entry) (lengths_of (samples_in frame.entry)) }
+{
+    planes_fit(
+        frame.sides(),
+        frame.y.samples,
+        frame.cb.samples,
+        frame.cr.samples,
+    )
 }
 
 /// One direction, whose reference is there: 15, then 14.
@@ -74,38 +83,24 @@ fn predict_with_one(
     dest: FrameGeometry,
     direction: PredictionDirection,
     motion: DirectionMotion,
-    frame: FrameBuffer,
-    y: &[u8],
-    cb: &[u8],
-    cr: &[u8],
+    frame: FrameBuffer<'_>,
     mb_col: usize,
     mb_row: usize,
     out: &mut [u8],
 ) -> Result<(), PredictionRefusal>
     requires { CellFits dest.chroma_format mb_col mb_row (length out.old) }
-    ensures answer { result ≡ answered (frame_refusal dest frame (lengths_of (samples_of y.now cb.now cr.now))) tt }
-    ensures buffer { out.new ≡ unless_refused (result_err result) (directed dest.chroma_format (read_frame frame (samples_of y.now cb.now cr.now)) motion mb_col mb_row) out.old }
+    ensures answer { result ≡ answered (frame_refusal dest (sides_of frame.entry) (lengths_of (samples_in frame.entry))) tt }
+    ensures buffer { out.new ≡ unless_refused (result_err result) (directed dest.chroma_format (read_frame (sides_of frame.entry) (samples_in frame.entry)) motion mb_col mb_row) out.old }
 {
     let declared = frame.geometry;
     if !same_geometry(declared, dest) {
         return Err(PredictionRefusal::OtherGeometry);
     }
-    if !planes_fit(frame, y, cb, cr) {
+    if !frame_fits(frame) {
         return Err(PredictionRefusal::OutsideDomain);
     }
     let chroma_format = dest.chroma_format;
-    predict_from_one(
-        direction,
-        motion,
-        chroma_format,
-        frame,
-        y,
-        cb,
-        cr,
-        mb_col,
-        mb_row,
-        out,
-    );
+    predict_from_one(direction, motion, chroma_format, frame, mb_col, mb_row, out);
     Ok(())
 }
 
@@ -125,23 +120,18 @@ fn predict_alone(
     dest: FrameGeometry,
     direction: PredictionDirection,
     motion: DirectionMotion,
-    reference: Option<FrameBuffer>,
-    y: &[u8],
-    cb: &[u8],
-    cr: &[u8],
+    reference: Option<FrameBuffer<'_>>,
     mb_col: usize,
     mb_row: usize,
     out: &mut [u8],
 ) -> Result<(), PredictionRefusal>
     requires { CellFits dest.chroma_format mb_col mb_row (length out.old) }
-    ensures answer { result ≡ answered (one_refusal (missing_in direction) dest reference (lengths_of (samples_of y.now cb.now cr.now))) tt }
-    ensures buffer { out.new ≡ unless_refused (result_err result) (directed dest.chroma_format (read_reference reference (samples_of y.now cb.now cr.now)) motion mb_col mb_row) out.old }
+    ensures answer { result ≡ answered (one_refusal (missing_in direction) dest (reference_sides reference.entry) (reference_lengths reference.entry)) tt }
+    ensures buffer { out.new ≡ unless_refused (result_err result) (directed dest.chroma_format (reference_reading reference.entry) motion mb_col mb_row) out.old }
 {
     match reference {
         None => Err(missing_in(direction)),
-        Some(frame) => predict_with_one(
-            dest, direction, motion, frame, y, cb, cr, mb_col, mb_row, out,
-        ),
+        Some(frame) => predict_with_one(dest, direction, motion, frame, mb_col, mb_row, out),
     }
 }
 
@@ -150,24 +140,18 @@ fn predict_with_two(
     dest: FrameGeometry,
     forward_motion: DirectionMotion,
     backward_motion: DirectionMotion,
-    forward: FrameBuffer,
-    forward_y: &[u8],
-    forward_cb: &[u8],
-    forward_cr: &[u8],
-    backward: FrameBuffer,
-    backward_y: &[u8],
-    backward_cb: &[u8],
-    backward_cr: &[u8],
+    forward: FrameBuffer<'_>,
+    backward: FrameBuffer<'_>,
     mb_col: usize,
     mb_row: usize,
     out: &mut [u8],
 ) -> Result<(), PredictionRefusal>
     requires { CellFits dest.chroma_format mb_col mb_row (length out.old) }
-    ensures answer { let forward_lengths = lengths_of (samples_of forward_y.now forward_cb.now forward_cr.now) in
-        let backward_lengths = lengths_of (samples_of backward_y.now backward_cb.now backward_cr.now) in
-        result ≡ answered (frames_refusal dest forward forward_lengths backward backward_lengths) tt }
-    ensures buffer { let forward_read = read_frame forward (samples_of forward_y.now forward_cb.now forward_cr.now) in
-        let backward_read = read_frame backward (samples_of backward_y.now backward_cb.now backward_cr.now) in
+    ensures answer { let forward_lengths = lengths_of (samples_in forward.entry) in
+        let backward_lengths = lengths_of (samples_in backward.entry) in
+        result ≡ answered (frames_refusal dest (sides_of forward.entry) forward_lengths (sides_of backward.entry) backward_lengths) tt }
+    ensures buffer { let forward_read = read_frame (sides_of forward.entry) (samples_in forward.entry) in
+        let backward_read = read_frame (sides_of backward.entry) (samples_in backward.entry) in
         let prediction = predicted rounded dest.chroma_format forward_read backward_read (Both forward_motion backward_motion) mb_col mb_row in
         out.new ≡ unless_refused (result_err result) prediction out.old }
 {
@@ -179,10 +163,10 @@ fn predict_with_two(
     if !same_geometry(backward_declared, dest) {
         return Err(PredictionRefusal::OtherGeometry);
     }
-    if !planes_fit(forward, forward_y, forward_cb, forward_cr) {
+    if !frame_fits(forward) {
         return Err(PredictionRefusal::OutsideDomain);
     }
-    if !planes_fit(backward, backward_y, backward_cb, backward_cr) {
+    if !frame_fits(backward) {
         return Err(PredictionRefusal::OutsideDomain);
     }
     let chroma_format = dest.chroma_format;
@@ -191,13 +175,7 @@ fn predict_with_two(
         backward_motion,
         chroma_format,
         forward,
-        forward_y,
-        forward_cb,
-        forward_cr,
         backward,
-        backward_y,
-        backward_cb,
-        backward_cr,
         mb_col,
         mb_row,
         out,
@@ -210,25 +188,15 @@ fn predict_both(
     dest: FrameGeometry,
     forward_motion: DirectionMotion,
     backward_motion: DirectionMotion,
-    forward: Option<FrameBuffer>,
-    forward_y: &[u8],
-    forward_cb: &[u8],
-    forward_cr: &[u8],
-    backward: Option<FrameBuffer>,
-    backward_y: &[u8],
-    backward_cb: &[u8],
-    backward_cr: &[u8],
+    forward: Option<FrameBuffer<'_>>,
+    backward: Option<FrameBuffer<'_>>,
     mb_col: usize,
     mb_row: usize,
     out: &mut [u8],
 ) -> Result<(), PredictionRefusal>
     requires { CellFits dest.chroma_format mb_col mb_row (length out.old) }
-    ensures answer { let forward_lengths = lengths_of (samples_of forward_y.now forward_cb.now forward_cr.now) in
-        let backward_lengths = lengths_of (samples_of backward_y.now backward_cb.now backward_cr.now) in
-        result ≡ answered (references_refusal dest forward forward_lengths backward backward_lengths (Both forward_motion backward_motion)) tt }
-    ensures buffer { let forward_read = read_reference forward (samples_of forward_y.now forward_cb.now forward_cr.now) in
-        let backward_read = read_reference backward (samples_of backward_y.now backward_cb.now backward_cr.now) in
-        let prediction = predicted rounded dest.chroma_format forward_read backward_read (Both forward_motion backward_motion) mb_col mb_row in
+    ensures answer { result ≡ answered (refusal_among dest forward.entry backward.entry (Both forward_motion backward_motion)) tt }
+    ensures buffer { let prediction = prediction_from dest.chroma_format forward.entry backward.entry (Both forward_motion backward_motion) mb_col mb_row in
         out.new ≡ unless_refused (result_err result) prediction out.old }
 {
     match forward {
@@ -240,13 +208,7 @@ fn predict_both(
                 forward_motion,
                 backward_motion,
                 first,
-                forward_y,
-                forward_cb,
-                forward_cr,
                 second,
-                backward_y,
-                backward_cb,
-                backward_cr,
                 mb_col,
                 mb_row,
                 out,
@@ -281,25 +243,15 @@ fn check_destination(
 fn predict_used(
     dest: FrameGeometry,
     used: Uses,
-    forward: Option<FrameBuffer>,
-    forward_y: &[u8],
-    forward_cb: &[u8],
-    forward_cr: &[u8],
-    backward: Option<FrameBuffer>,
-    backward_y: &[u8],
-    backward_cb: &[u8],
-    backward_cr: &[u8],
+    forward: Option<FrameBuffer<'_>>,
+    backward: Option<FrameBuffer<'_>>,
     mb_col: usize,
     mb_row: usize,
     out: &mut [u8],
 ) -> Result<Accepted, PredictionRefusal>
     requires { CellFits dest.chroma_format mb_col mb_row (length out.old) }
-    ensures answer { let forward_lengths = lengths_of (samples_of forward_y.now forward_cb.now forward_cr.now) in
-        let backward_lengths = lengths_of (samples_of backward_y.now backward_cb.now backward_cr.now) in
-        result ≡ answered (references_refusal dest forward forward_lengths backward backward_lengths used) (accepted used) }
-    ensures buffer { let forward_read = read_reference forward (samples_of forward_y.now forward_cb.now forward_cr.now) in
-        let backward_read = read_reference backward (samples_of backward_y.now backward_cb.now backward_cr.now) in
-        let prediction = predicted rounded dest.chroma_format forward_read backward_read used mb_col mb_row in
+    ensures answer { result ≡ answered (refusal_among dest forward.entry backward.entry used) (accepted used) }
+    ensures buffer { let prediction = prediction_from dest.chroma_format forward.entry backward.entry used mb_col mb_row in
         out.new ≡ unless_refused (result_err result) prediction out.old }
 {
     match used {
@@ -309,9 +261,6 @@ fn predict_used(
                 PredictionDirection::Forward,
                 d,
                 forward,
-                forward_y,
-                forward_cb,
-                forward_cr,
                 mb_col,
                 mb_row,
                 out,
@@ -326,9 +275,6 @@ fn predict_used(
                 PredictionDirection::Backward,
                 e,
                 backward,
-                backward_y,
-                backward_cb,
-                backward_cr,
                 mb_col,
                 mb_row,
                 out,
@@ -338,22 +284,7 @@ fn predict_used(
             })
         }
         Uses::Both(d, e) => {
-            predict_both(
-                dest,
-                d,
-                e,
-                forward,
-                forward_y,
-                forward_cb,
-                forward_cr,
-                backward,
-                backward_y,
-                backward_cb,
-                backward_cr,
-                mb_col,
-                mb_row,
-                out,
-            )?;
+            predict_both(dest, d, e, forward, backward, mb_col, mb_row, out)?;
             Ok(Accepted {
                 directions: UsedDirections::Both,
             })
@@ -366,53 +297,35 @@ fn predict_used(
 /// destination's, of a plane that is outside the domain.
 pub fn predict_macroblock_planes<V: DirectionVectors>(
     dest: FrameGeometry,
-    forward: Option<FrameBuffer>,
-    forward_y: &[u8],
-    forward_cb: &[u8],
-    forward_cr: &[u8],
-    backward: Option<FrameBuffer>,
-    backward_y: &[u8],
-    backward_cb: &[u8],
-    backward_cr: &[u8],
+    forward: Option<FrameBuffer<'_>>,
+    backward: Option<FrameBuffer<'_>>,
     mb_col: usize,
     mb_row: usize,
     motion: Motion<V>,
     out: &mut [u8],
 ) -> Result<Accepted, PredictionRefusal>
-    ensures answer { let used = uses_by V.motion V.still motion (is_some forward) (is_some backward) in
-        let forward_lengths = lengths_of (samples_of forward_y.now forward_cb.now forward_cr.now) in
-        let backward_lengths = lengths_of (samples_of backward_y.now backward_cb.now backward_cr.now) in
-        let refusal = prediction_refusal dest (length out.old) forward forward_lengths backward backward_lengths used mb_col mb_row in
+    ensures answer { let used = uses_by V.motion V.still motion (is_some forward.entry) (is_some backward.entry) in
+        let refusal = refusal_from dest (length out.old) forward.entry backward.entry used mb_col mb_row in
         result ≡ answered refusal (accepted used) }
-    ensures directions { let used = uses_by V.motion V.still motion (is_some forward) (is_some backward) in
+    ensures directions { let used = uses_by V.motion V.still motion (is_some forward.entry) (is_some backward.entry) in
         result_err result ≡ None → prediction_directions result ≡ Some (directions_of used) }
-    ensures buffer { let used = uses_by V.motion V.still motion (is_some forward) (is_some backward) in
-        let forward_read = read_reference forward (samples_of forward_y.now forward_cb.now forward_cr.now) in
-        let backward_read = read_reference backward (samples_of backward_y.now backward_cb.now backward_cr.now) in
-        let prediction = predicted rounded dest.chroma_format forward_read backward_read used mb_col mb_row in
+    ensures buffer { let used = uses_by V.motion V.still motion (is_some forward.entry) (is_some backward.entry) in
+        let prediction = prediction_from dest.chroma_format forward.entry backward.entry used mb_col mb_row in
         out.new ≡ unless_refused (result_err result) prediction out.old }
 
     // Samples given by the directions that have motion, where nothing of these is refused, are as they would be by these alone.
     ensures unchanged { let wanted = wanted_by V.motion V.still motion in
-        let forward_samples = samples_of forward_y.now forward_cb.now forward_cr.now in
-        let backward_samples = samples_of backward_y.now backward_cb.now backward_cr.now in
-        let refusal = prediction_refusal dest (length out.old) forward (lengths_of forward_samples) backward (lengths_of backward_samples) wanted mb_col mb_row in
-        let prediction = predicted rounded dest.chroma_format (read_reference forward forward_samples) (read_reference backward backward_samples) wanted mb_col mb_row in
+        let refusal = refusal_from dest (length out.old) forward.entry backward.entry wanted mb_col mb_row in
+        let prediction = prediction_from dest.chroma_format forward.entry backward.entry wanted mb_col mb_row in
         refusal ≡ None → (result ≡ Ok (accepted wanted)) × (out.new ≡ prediction) }
-    ensures backward_alone { result_err result ≡ Some BackwardMissing → BackwardAlone (wanted_by V.motion V.still motion) × (is_some backward ≡ false) }
+    ensures backward_alone { result_err result ≡ Some BackwardMissing → BackwardAlone (wanted_by V.motion V.still motion) × (is_some backward.entry ≡ false) }
 {
     check_destination(dest, mb_col, mb_row, out.len())?;
     predict_used(
         dest,
         motion.uses(forward.is_some(), backward.is_some()),
         forward,
-        forward_y,
-        forward_cb,
-        forward_cr,
         backward,
-        backward_y,
-        backward_cb,
-        backward_cr,
         mb_col,
         mb_row,
         out,

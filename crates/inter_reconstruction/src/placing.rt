@@ -7,10 +7,10 @@ ghost use Rattle.inter_reconstruction.specs.Frames.{samples_of, lengths_of};
 ghost use Rattle.inter_reconstruction.specs.Placing.{place_at, stored, placed, whole_side, well_formed, cell_inside, picture_fits, placing_number, placing_refusal};
 ghost use Rattle.inter_reconstruction.specs.inner.Placing.{Room, Placeable};
 
-use crate::frames::{FrameBuffer, FrameGeometry, chroma_mb_extent};
+use crate::frames::{FrameGeometry, FrameSides, chroma_mb_extent};
 use crate::macroblock::planes_fit;
 use crate::samples::copy_samples;
-use forming_predictions::{LARGEST_SIDE, ReferencePlane};
+use forming_predictions::{LARGEST_SIDE, PlaneSides};
 use pmv::kinds::ChromaFormat;
 
 /// Why a macroblock is not placed. Each reason has its number of docs/SCOPE.md.
@@ -56,7 +56,7 @@ fn place_block(
 
 /// All three components.
 fn place_planes(
-    picture: FrameBuffer,
+    picture: FrameSides,
     mb_col: usize,
     mb_row: usize,
     bytes: &[u8],
@@ -107,7 +107,7 @@ fn place_planes(
 }
 
 /// No side is over 16,384, and each plane has as many samples as its sides say.
-fn picture_fits(picture: FrameBuffer, y: &[u8], cb: &[u8], cr: &[u8]) -> bool
+fn picture_fits(picture: FrameSides, y: &[u8], cb: &[u8], cr: &[u8]) -> bool
     ensures { result ≡ picture_fits picture (lengths_of (samples_of y.now cb.now cr.now)) }
 {
     let g = picture.geometry;
@@ -122,20 +122,20 @@ fn whole_side(side: usize) -> bool
 }
 
 /// The sides of a chrominance plane that fits the picture's sides and format.
-fn chroma_sides(g: FrameGeometry) -> ReferencePlane
+fn chroma_sides(g: FrameGeometry) -> PlaneSides
     ensures { (result.width ≡ columns_of g.chroma_format ColourComponent.cb g.width) × (result.height ≡ lines_of g.chroma_format ColourComponent.cb g.height) }
 {
     let f = g.chroma_format;
     match f {
-        ChromaFormat::Yuv420 => ReferencePlane {
+        ChromaFormat::Yuv420 => PlaneSides {
             width: g.width / 2,
             height: g.height / 2,
         },
-        ChromaFormat::Yuv422 => ReferencePlane {
+        ChromaFormat::Yuv422 => PlaneSides {
             width: g.width / 2,
             height: g.height,
         },
-        ChromaFormat::Yuv444 => ReferencePlane {
+        ChromaFormat::Yuv444 => PlaneSides {
             width: g.width,
             height: g.height,
         },
@@ -143,11 +143,11 @@ fn chroma_sides(g: FrameGeometry) -> ReferencePlane
 }
 
 /// The picture's sides are whole, and its planes fit them.
-fn well_formed(picture: FrameBuffer) -> bool
+fn well_formed(picture: FrameSides) -> bool
     ensures { result ≡ well_formed picture }
 {
     let g = picture.geometry;
-    let luma = ReferencePlane {
+    let luma = PlaneSides {
         width: g.width,
         height: g.height,
     };
@@ -164,7 +164,7 @@ fn cell_inside(g: FrameGeometry, mb_col: usize, mb_row: usize) -> bool
 
 /// 14, then 20, then 18.
 fn check_placing(
-    picture: FrameBuffer,
+    picture: FrameSides,
     mb_col: usize,
     mb_row: usize,
     bytes: usize,
@@ -194,7 +194,7 @@ fn check_placing(
 /// macroblocks. Nothing is written by a refusal: of a side over 16,384 or a plane with another number of samples than its sides say (14), of an
 /// ill-formed picture or a cell outside it (20), of another number of bytes than a macroblock has (18).
 pub fn place_macroblock(
-    picture: FrameBuffer,
+    picture: FrameSides,
     mb_col: usize,
     mb_row: usize,
     bytes: &[u8],

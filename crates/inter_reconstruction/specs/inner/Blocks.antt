@@ -4,18 +4,18 @@ use Rattle.std.specs.Prelude.{◌≡◌, true, List, ◌++◌, ℕ, ◌+◌, ◌
 use Rattle.combine_predictions.specs.declared.PredictionDirection.{PredictionDirection}
 use Rattle.combine_predictions.specs.declared.PredictionDirection.TheVariants.{Forward, Backward, Skipped}
 use Rattle.forming_predictions.specs.Refusals.{plane_fits}
-use Rattle.forming_predictions.specs.declared.ReferencePlane.{ReferencePlane}
+use Rattle.forming_predictions.specs.declared.PlaneSides.{PlaneSides}
 use Rattle.forming_predictions.specs.Means.{rounded}
 use Rattle.inter_reconstruction.specs.declared.motion.FieldVectorPair.{FieldVectorPair}
 use Rattle.inter_reconstruction.specs.Frames.{PlaneReading}
 use Rattle.inter_reconstruction.specs.Macroblock.{field_sample, rectangle}
 
 -- a plane with its samples is in the domain
-abbrev pub PlaneFits : ReferencePlane → List ℕ → Type 0
+abbrev pub PlaneFits : PlaneSides → List ℕ → Type 0
 PlaneFits p samples = plane_fits p.width p.height (length samples) ≡ true
 
--- a block at column x and row y that prediction takes, in a buffer of n bytes
-pub record BlockAt (x y w h n : ℕ) : Type 0 where
+-- a block at column x and row y that prediction takes
+pub record AreaFits (x y w h : ℕ) : Type 0 where
   pub left : x ≤ 16368
   pub top : y ≤ 16368
   pub some : 0 < w
@@ -23,17 +23,11 @@ pub record BlockAt (x y w h n : ℕ) : Type 0 where
   pub eights : w % 8 ≡ 0
   pub tall : 0 < h
   pub high : h ≤ 16
-  pub count : n ≡ w * h
 
 -- it has as many rows of the one field as of the other, and a row of the top field first
 pub record FieldRows (y h : ℕ) : Type 0 where
   pub first : y % 2 ≡ 0
   pub even : h % 2 ≡ 0
-
--- two blocks of one size, one after the other in a buffer of n bytes
-pub record HalvesAt (x line w h n : ℕ) : Type 0 where
-  pub one : BlockAt x line w h (w * h)
-  pub count : n ≡ w * h + w * h
 
 -- the lines of both fields
 unfoldable pub field_halves : PlaneReading → FieldVectorPair → ℕ → ℕ → ℕ → ℕ → List ℕ

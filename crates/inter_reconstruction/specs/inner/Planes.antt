@@ -11,14 +11,14 @@ use Rattle.inter_reconstruction.specs.Macroblock.{direction_sample, used_sample,
 use Rattle.inter_reconstruction.specs.Refusals.{cell_refusal, geometry_refusal, planes_refusal}
 use Rattle.inter_reconstruction.specs.inner.Blocks.{PlaneFits}
 use Rattle.inter_reconstruction.specs.declared.frames.FrameGeometry.{FrameGeometry}
-use Rattle.inter_reconstruction.specs.declared.frames.FrameBuffer.{FrameBuffer}
+use Rattle.inter_reconstruction.specs.declared.frames.FrameSides.{FrameSides}
 use Rattle.inter_reconstruction.specs.declared.motion.DirectionMotion.{DirectionMotion}
 use Rattle.inter_reconstruction.specs.declared.motion.Uses.{Uses}
 use Rattle.inter_reconstruction.specs.declared.macroblock.PredictionRefusal.{PredictionRefusal}
 use Rattle.inter_reconstruction.specs.declared.macroblock.PredictionRefusal.TheVariants.{ForwardMissing, BackwardMissing, WrongLength}
 
 -- every plane of a frame is in the domain
-abbrev pub FrameFits : FrameBuffer → Samples → Type 0
+abbrev pub FrameFits : FrameSides → Samples → Type 0
 FrameFits b s = (c : ColourComponent) → PlaneFits (plane_of b c) (s c)
 
 -- a cell that prediction takes, and an output of n bytes for it
@@ -59,14 +59,14 @@ missing_in PredictionDirection.Skipped = ForwardMissing
 -- ---- both directions
 
 -- both chrominance components
-unfoldable pub chroma_blocks : PlaneReading → PlaneReading → PlaneReading → PlaneReading → Uses → ℕ → ℕ → ℕ → ℕ → List ℕ
-chroma_blocks fb fr bb br u w h x y = rectangle w h (used_sample rounded fb bb u) x y ++ rectangle w h (used_sample rounded fr br u) x y
+unfoldable pub chroma_blocks : (ColourComponent → PlaneReading) → (ColourComponent → PlaneReading) → Uses → ℕ → ℕ → ℕ → ℕ → List ℕ
+chroma_blocks f b u w h x y = rectangle w h (used_sample rounded (f cb) (b cb) u) x y ++ rectangle w h (used_sample rounded (f cr) (b cr) u) x y
 
 -- what is refused of one reference that is there, and of two
-abbrev pub frame_refusal : FrameGeometry → FrameBuffer → (ColourComponent → ℕ) → Option PredictionRefusal
+abbrev pub frame_refusal : FrameGeometry → FrameSides → (ColourComponent → ℕ) → Option PredictionRefusal
 frame_refusal dest b n = or_else (geometry_refusal dest (Some b)) (planes_refusal (Some b) n)
 
-abbrev pub frames_refusal : FrameGeometry → FrameBuffer → (ColourComponent → ℕ) → FrameBuffer → (ColourComponent → ℕ) → Option PredictionRefusal
+abbrev pub frames_refusal : FrameGeometry → FrameSides → (ColourComponent → ℕ) → FrameSides → (ColourComponent → ℕ) → Option PredictionRefusal
 frames_refusal dest b n q k =
     or_else (geometry_refusal dest (Some b))
     (or_else (geometry_refusal dest (Some q))

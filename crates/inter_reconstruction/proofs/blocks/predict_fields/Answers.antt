@@ -9,9 +9,9 @@ use Rattle.inter_reconstruction.proofs.blocks.predict_fields.Goals as goal
 pub returns : goal.returns
 returns c =
     let a = c.args in
-    let n = a.width * a.height in
-    let read = read_plane a.plane a.samples.now in
-    let long = ap length c.predict_halves.ensures ∙ halves_length read a.pair a.width a.height a.x a.y c.requires.2 in
+    let n = a.at.width * a.at.height in
+    let read = read_plane a.plane.sides a.plane.samples.now in
+    let long = ap length c.predict_halves.ensures ∙ halves_length read a.pair a.at.width a.at.height a.at.x a.at.y c.requires.2 in
     let e = front_is n c.predict_halves.new.out (drop n (blank 256)) long ∙ c.predict_halves.ensures in
     (rw e at c.interleave.ensures)
-    ∙ interleaved_is read a.pair a.width a.height a.x a.y c.requires.2 c.requires.1.some
+    ∙ interleaved_is read a.pair a.at.width a.at.height a.at.x a.at.y c.requires.2 c.well_formed.at.fits.some

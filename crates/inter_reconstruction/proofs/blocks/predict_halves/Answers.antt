@@ -51,19 +51,19 @@ module _ (read : PlaneReading) (pair : FieldVectorPair) (w h x line : ℕ) where
       rw (← n) (tab_self (block pair.top ++ block pair.bottom))
 
 pub loop-f-init : goal.loop-f-init
-loop-f-init c = rows_none _ _ _ _ (omega (arith, c.requires.1.count))
+loop-f-init c = rows_none _ _ _ _ (omega (arith, c.requires.1))
 
 pub loop-f-preserved : goal.loop-f-preserved
 loop-f-preserved c =
     let a = c.args in
     let less : c.loop-f.f < 2 = omega (arith, c.loop-f-test.true) in
-    let read = read_plane a.plane a.samples.now in
+    let read = read_plane a.plane.sides a.plane.samples.now in
     rows_step c.loop-f.invariant less
-    (as-part read a.pair a.width a.height a.x a.line _ _ _ (rows_part c.loop-f.invariant less) c.predict_lines.ensures)
-    (λ k h. in_halves read a.pair a.width a.height a.x a.line _ c.loop-f.f k less h)
+    (as-part read a.pair a.at.width a.at.height a.at.x a.at.y _ _ _ (rows_part c.loop-f.invariant less) c.predict_lines.ensures)
+    (λ k h. in_halves read a.pair a.at.width a.at.height a.at.x a.at.y _ c.loop-f.f k less h)
 
 pub returns : goal.returns
 returns c =
     let a = c.args in
     rows_all c.loop-f.invariant (omega (arith, c.loop-f-test.false))
-    ∙ whole (read_plane a.plane a.samples.now) a.pair a.width a.height a.x a.line
+    ∙ whole (read_plane a.plane.sides a.plane.samples.now) a.pair a.at.width a.at.height a.at.x a.at.y

@@ -8,12 +8,14 @@ use Rattle.inter_reconstruction.proofs.blocks.predict_lines.Goals as goal
 pub returns : goal.returns
 returns c =
     let a = c.args in
-    let b = c.requires.1 in
+    let at = a.at in
+    let b = c.well_formed.at.fits in
     let h : FitsSigned w32 a.u.vector.horizontal = search rules in
     let v : FitsSigned w32 a.u.vector.vertical = search rules in
-    let x = to_z_pos w32 a.x (omega (arith, b.left)) in
-    let y = to_z_pos w32 a.line (omega (arith, b.top)) in
-    block_written _ _ _ _ _ (simp (x, y) at c.predict_field_block.ensures.answer)
-    (block_accepted a.plane a.samples.now a.x a.line a.width a.height (length a.out.now) c.requires.0 b)
-    (simp (x, y, to_z-of_z w32 a.u.vector.horizontal h, to_z-of_z w32 a.u.vector.vertical v) at c.predict_field_block.ensures.buffer)
-    ∙ lines_are a.plane a.samples.now a.u a.width a.height a.x a.line
+    let x = to_z_pos w32 at.x (omega (arith, b.left)) in
+    let y = to_z_pos w32 at.y (omega (arith, b.top)) in
+    let size = c.size.ensures in
+    block_written _ _ _ _ _ (simp (x, y, size.0, size.1) at c.predict_block.ensures.answer)
+    (block_accepted a.plane.sides a.plane.samples.now at.x at.y at.width at.height (length a.out.now) c.requires.0 b c.requires.1)
+    (simp (x, y, size.0, size.1, to_z-of_z w32 a.u.vector.horizontal h, to_z-of_z w32 a.u.vector.vertical v) at c.predict_block.ensures.buffer)
+    ∙ lines_are a.plane.sides a.plane.samples.now a.u at.width at.height at.x at.y

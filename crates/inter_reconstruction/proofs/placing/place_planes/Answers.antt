@@ -2,7 +2,7 @@
 -- Assumes nothing.
 use Rattle.std.proofs.Common.{◌≡◌, refl, ◌∙◌, ℕ, ◌+◌, ◌*◌, ◌≤◌, length, arith}
 use Rattle.laws.proofs.Parts.{part_length}
-use Rattle.inter_reconstruction.specs.declared.frames.FrameBuffer.{FrameBuffer}
+use Rattle.inter_reconstruction.specs.declared.frames.FrameSides.{FrameSides}
 use Rattle.inter_reconstruction.specs.Components.{ColourComponent, luma, cb, cr, block_width, block_height}
 use Rattle.inter_reconstruction.specs.Frames.{samples_of}
 use Rattle.inter_reconstruction.specs.inner.Placing.{Placeable}
@@ -12,7 +12,7 @@ use Rattle.inter_reconstruction.proofs.Places.{few_columns, few_rows, room_as, p
 use Rattle.inter_reconstruction.proofs.placing.place_planes.Goals as goal
 
 -- what follows of the chrominance's sides, as the code knows them
-module _ {p : FrameBuffer} {n : ColourComponent → ℕ} {bytes col row : ℕ} (r : Placeable p n bytes col row)
+module _ {p : FrameSides} {n : ColourComponent → ℕ} {bytes col row : ℕ} (r : Placeable p n bytes col row)
     {w h : ℕ} (e : (w ≡ block_width p.geometry.chroma_format cb) × (h ≡ block_height p.geometry.chroma_format cb)) where
   cell : CellFits p.geometry.chroma_format col row bytes
   cell = record { column = few_columns p n bytes col row r luma; line = few_rows p n bytes col row r luma; count = r.count }
