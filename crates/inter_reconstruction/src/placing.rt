@@ -107,6 +107,7 @@ fn place_planes(
 }
 
 /// No side is over 16,384, and each plane has as many samples as its sides say.
+#[tactic(auto, unfolding(crate::specs::Placing::picture_fits))]
 fn picture_fits(picture: FrameBuffer, y: &[u8], cb: &[u8], cr: &[u8]) -> bool
     ensures { result ≡ picture_fits picture (lengths_of (samples_of y.now cb.now cr.now)) }
 {
@@ -143,6 +144,7 @@ fn chroma_sides(g: FrameGeometry) -> ReferencePlane
 }
 
 /// The picture's sides are whole, and its planes fit them.
+#[tactic(auto, unfolding(crate::specs::Placing::well_formed))]
 fn well_formed(picture: FrameBuffer) -> bool
     ensures { result ≡ well_formed picture }
 {
