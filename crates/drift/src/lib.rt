@@ -13,6 +13,7 @@ pub struct DriftBound {
 
 /// How far a sample of picture n may lie above and below the unrounded one: n grey steps, and n / 4. That it is so for every picture, also for
 /// those whose number no u32 holds, is the promise `every`.
+#[tactic(auto, using(crate::proofs::Runs::drift))]
 pub fn drift_bound(n: u32) -> DriftBound
     ensures figure { (result.above ≡ 4 * n) × (result.below ≡ n) }
     ensures drift { DriftWithin n result.above result.below }

@@ -1,10 +1,10 @@
 -- A buffer that is written from its front, part after part, and the front of a local array.
 -- Assumes nothing.
-use mathlib.Core.Path.{◌≡◌, refl, sym, ◌∙◌}
+use mathlib.Core.Path.{◌≡◌, refl, sym, ap, ◌∙◌}
 use mathlib.Core.List.{List, ◌++◌, append_assoc, append-nil}
 use Prim.Native.Nat.{ℕ, ◌+◌, ◌-◌, ◌≤◌}
 use native.Mathlib.Omega.{arith}
-use lib.ListN.{length, take, drop, length-append, replicate, get_or}
+use lib.ListN.{length, take, drop, length-append, length-drop, replicate, get_or}
 use lib.Seq.{take_at, drop_at, drop-drop, drop-length}
 use borrow.Rule.Slice.PartMut.{put_mid}
 use Rattle.laws.specs.Tabulate.{tabulate}
@@ -41,6 +41,10 @@ begun_part {front} {d} {o} n m ys h e f l =
             append_assoc front ys (drop (n + m) d),
           );
     }
+
+-- its length
+pub begun_length : {front d o : List ℕ} → Begun front d o → length o ≡ length d
+begun_length {front} {d} h = ap length h.is ∙ length-append front (drop (length front) d) ∙ omega (arith, h.within, length-drop (length front) d)
 
 -- the whole buffer
 pub begun_all : {front d o : List ℕ} → Begun front d o → length front ≡ length d → o ≡ front

@@ -13,8 +13,10 @@ use Rattle.inter_reconstruction.specs.declared.motion.Uses.{Uses}
 use Rattle.inter_reconstruction.specs.Components.{ColourComponent, luma, cb, cr, block_width, block_height, block_bytes, macroblock_bytes}
 use Rattle.inter_reconstruction.specs.Motion.{chroma_uses}
 use Rattle.inter_reconstruction.specs.Frames.{PlaneReading}
-use Rattle.inter_reconstruction.specs.Macroblock.{first_column, first_row, used_sample, rectangle, macroblock, predicted}
+use Rattle.inter_reconstruction.specs.Macroblock.{first_column, first_row, used_sample, rectangle, part, macroblock, predicted}
 use Rattle.inter_reconstruction.specs.inner.Blocks.{AreaFits, FieldRows, ChromaSides}
+use Rattle.inter_reconstruction.specs.inner.Areas.{PartAt}
+use Rattle.inter_reconstruction.specs.declared.area.Area.{Area}
 use Rattle.inter_reconstruction.specs.inner.Planes.{CellFits, BlocksFit, chroma_blocks}
 use Rattle.inter_reconstruction.proofs.Begun.{append_count}
 use Rattle.inter_reconstruction.proofs.Rectangles.{rectangle_length}
@@ -58,7 +60,7 @@ chroma_length f b u w h x y =
     let n : (f b : PlaneReading) → length (block f b) ≡ w * h = λ f b. rectangle_length w h (used_sample rounded f b u) x y in
     append_count (block (f cb) (b cb)) (block (f cr) (b cr)) (w * h) (w * h) _ (n (f cb) (b cb)) (n (f cr) (b cr)) refl
 
-module _ (f : ChromaFormat) (w h : ℕ) (ew : w ≡ block_width f cb) (eh : h ≡ block_height f cb) where
+module _ (f : ChromaFormat) {w h : ℕ} (ew : w ≡ block_width f cb) (eh : h ≡ block_height f cb) where
   sides : ChromaSides w h
   sides = rw (ew, eh) (chroma_sides f)
 
@@ -83,11 +85,32 @@ module _ (f : ChromaFormat) (w h : ℕ) (ew : w ≡ block_width f cb) (eh : h �
         high = sides.high;
       }
 
+-- ---- a part by its area
+module _ {f : ChromaFormat} {c : ColourComponent} {col row : ℕ} {at : Area} (k : PartAt f c col row at) where
+  pub area_bytes : at.width * at.height ≡ block_bytes f c
+  area_bytes = rw (k.width, k.height)
+
+  pub area_part : (rule : ℕ → ℕ → ℕ) → rectangle at.width at.height rule at.x at.y ≡ part f c rule col row
+  area_part rule = rw (k.column, k.line, k.width, k.height)
+
+-- Cr's part lies as Cb's
+pub cr_part : (f : ChromaFormat) {col row : ℕ} {at : Area} → PartAt f cb col row at → PartAt f cr col row at
+cr_part Yuv420 k = record { column = k.column; line = k.line; width = k.width; height = k.height }
+cr_part Yuv422 k = record { column = k.column; line = k.line; width = k.width; height = k.height }
+cr_part Yuv444 k = record { column = k.column; line = k.line; width = k.width; height = k.height }
+
+-- both fields have as many of its rows
+pub luma_area_rows : {f : ChromaFormat} {col row : ℕ} {at : Area} → PartAt f luma col row at → FieldRows at.y at.height
+luma_area_rows {row = row} k = rw (k.line, k.height) (luma_rows row)
+
+pub chroma_area_rows : (f : ChromaFormat) {col row : ℕ} {at : Area} → PartAt f cb col row at → FieldRows at.y at.height
+chroma_area_rows f {row = row} k = rw (k.line, k.height) (chroma_rows f refl refl row)
+
 -- ---- the bytes
 
 pub parts_are : (f : ChromaFormat) (forward backward : ColourComponent → PlaneReading) (u v : Uses) (col row : ℕ) (a b : List ℕ)
     → v ≡ chroma_uses f u
-    → a ≡ rectangle 16 16 (used_sample rounded (forward luma) (backward luma) u) (col * 16) (row * 16)
+    → a ≡ part f luma (used_sample rounded (forward luma) (backward luma) u) col row
     → b ≡ chroma_blocks forward backward v (block_width f cb) (block_height f cb) (first_column f cb col) (first_row f cb row)
     → a ++ b ≡ predicted rounded f forward backward u col row
 unfolding macroblock chroma_blocks

@@ -12,7 +12,9 @@ use Rattle.combine_predictions.proofs.Answers.{refusal_of}
 use Rattle.inter_reconstruction.specs.Components.{ColourComponent, macroblock_bytes}
 use Rattle.inter_reconstruction.specs.Motion.{remaining, BackwardAlone}
 use Rattle.inter_reconstruction.specs.Refusals.{too_far, cell_refusal, same_geometry, planes_fit, geometry_refusal, planes_refusal, references_refusal, prediction_refusal}
-use Rattle.inter_reconstruction.specs.Answers.{accepted, directions_of, prediction_directions}
+use Rattle.inter_reconstruction.specs.Frames.{reference_sides, reference_lengths}
+use Rattle.inter_reconstruction.specs.Answers.{accepted, directions_of, prediction_directions, refusal_from}
+use Rattle.inter_reconstruction.specs.declared.frames.FrameBuffer.{FrameBuffer}
 use Rattle.inter_reconstruction.specs.declared.frames.FrameGeometry.{FrameGeometry}
 use Rattle.inter_reconstruction.specs.declared.frames.FrameSides.{FrameSides}
 use Rattle.inter_reconstruction.specs.declared.motion.DirectionMotion.{DirectionMotion}
@@ -140,3 +142,28 @@ module _ (dest : FrameGeometry) (out : ℕ) (f b : Option FrameSides) (n k : Col
       (cause_other (too_far col || too_far row) CellTooFar (λ z. absurd cc))
       (cause_other (not (eqb out (macroblock_bytes dest.chroma_format))) WrongLength (λ z. absurd cc))
       m)
+
+-- ---- by references that hold their samples
+there : (r : Option FrameBuffer) → is_some (reference_sides r) ≡ is_some r
+there None = refl
+there (Some b) = refl
+
+module _ (dest : FrameGeometry) (out : ℕ) (f b : Option FrameBuffer) (u : Uses) (col row : ℕ) where
+  by_presence : remaining u (is_some (reference_sides f)) (is_some (reference_sides b)) ≡ remaining u (is_some f) (is_some b)
+  by_presence = rw (there f, there b)
+
+  pub given_before : (r : Result Accepted PredictionRefusal) (o old : List ℕ) (w : Uses → List ℕ)
+      → r ≡ answered (refusal_from dest out f b (remaining u (is_some f) (is_some b)) col row) (accepted (remaining u (is_some f) (is_some b)))
+      → o ≡ unless_refused (result_err r) (w (remaining u (is_some f) (is_some b))) old
+      → refusal_from dest out f b u col row ≡ None
+      → (r ≡ Ok (accepted u)) × (o ≡ w u)
+  given_before r o old w a v e =
+      as_before dest out (reference_sides f) (reference_sides b) (reference_lengths f) (reference_lengths b) u col row r o old w
+      (rw by_presence a) (rw by_presence v) e
+
+  pub given_17 : (r : Result Accepted PredictionRefusal)
+      → r ≡ answered (refusal_from dest out f b (remaining u (is_some f) (is_some b)) col row) (accepted (remaining u (is_some f) (is_some b)))
+      → result_err r ≡ Some BackwardMissing
+      → BackwardAlone u × (is_some b ≡ false)
+  given_17 r a e =
+      rw (there b) at (alone_17 dest out (reference_sides f) (reference_sides b) (reference_lengths f) (reference_lengths b) u col row r (rw by_presence a) e)

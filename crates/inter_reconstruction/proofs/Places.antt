@@ -20,7 +20,9 @@ use Rattle.inter_reconstruction.specs.Frames.{Samples, samples_of, plane_of}
 use Rattle.inter_reconstruction.specs.Macroblock.{first_column, first_row}
 use Rattle.inter_reconstruction.specs.Refusals.{every_component, planes_fit}
 use Rattle.inter_reconstruction.specs.Placing.{stored, place_at, part_of, placed, declared_fit, whole_side, whole_sides, plane_sides_fit, picture_fits, well_formed}
+use Rattle.inter_reconstruction.specs.inner.Areas.{PartAt}
 use Rattle.inter_reconstruction.specs.inner.Placing.{Room, Placeable}
+use Rattle.inter_reconstruction.specs.declared.area.Area.{Area}
 use Rattle.inter_reconstruction.proofs.Checks.{bytes_are}
 
 -- ---- answers
@@ -139,20 +141,20 @@ module _ (p : FrameSides) (n : ColourComponent → ℕ) (bytes col row : ℕ) (r
         top = mul-le-mul few_rows (height_le format c);
       }
 
--- ---- the same by the sides of a part, as the code knows them
-module _ (p : FrameSides) (c : ColourComponent) (w h : ℕ) (ew : w ≡ block_width p.geometry.chroma_format c) (eh : h ≡ block_height p.geometry.chroma_format c) where
-  pub room_as : (n : ColourComponent → ℕ) (bytes col row m : ℕ) → Placeable p n bytes col row → m ≡ w * h
-      → Room (col * w) (row * h) w h (plane_of p c).width (n c) m
-  room_as n bytes col row m r e =
-      let k = rw (ew, eh) at e in
+-- ---- the same by the place of a part, as the code knows it
+module _ (p : FrameSides) (c : ColourComponent) {col row : ℕ} {at : Area} (k : PartAt p.geometry.chroma_format c col row at) where
+  pub room_as : (n : ColourComponent → ℕ) (bytes m : ℕ) → Placeable p n bytes col row → m ≡ at.width * at.height
+      → Room at.x at.y at.width at.height (plane_of p c).width (n c) m
+  room_as n bytes m r e =
+      let count = rw (k.width, k.height) at e in
       let t = part_room p n bytes col row r c in
-      rw (ew, eh) (record { right = t.right; rows = t.rows; count = k; wide = t.wide; high = t.high; top = t.top })
+      rw (k.column, k.line, k.width, k.height) (record { right = t.right; rows = t.rows; count = count; wide = t.wide; high = t.high; top = t.top })
 
-  pub placed_as : (col row : ℕ) (bytes : List ℕ) (planes : Samples) (part new : List ℕ)
+  pub placed_as : (bytes : List ℕ) (planes : Samples) (part new : List ℕ)
       → part ≡ part_of p.geometry.chroma_format c bytes
-      → new ≡ stored (place_at (plane_of p c).width w (col * w) (row * h)) part (planes c)
+      → new ≡ stored (place_at (plane_of p c).width at.width at.x at.y) part (planes c)
       → new ≡ placed p col row bytes planes c
-  placed_as col row bytes planes part new e d = d ∙ rw (ew, eh, e)
+  placed_as bytes planes part new e d = d ∙ rw (k.column, k.line, k.width, e)
 
 -- the chrominance's parts of a macroblock's bytes
 module _ (f : ChromaFormat) (w h : ℕ) (ew : w ≡ block_width f cb) (eh : h ≡ block_height f cb) (bytes : List ℕ) where

@@ -7,42 +7,15 @@ ghost use Rattle.inter_reconstruction.specs.declared.motion.DirectionMotion.TheV
 ghost use Rattle.inter_reconstruction.specs.declared.motion.Uses.TheVariants.{Both};
 ghost use Rattle.inter_reconstruction.specs.Frames.{read_plane};
 ghost use Rattle.inter_reconstruction.specs.Macroblock.{field_sample, direction_sample, used_sample, rectangle};
-ghost use Rattle.inter_reconstruction.specs.inner.Blocks.{PlaneFits, AreaFits, FieldRows, field_halves, interleaved_cell, forward_bytes};
+ghost use Rattle.inter_reconstruction.specs.inner.Blocks.{PlaneFits, FieldRows, field_halves, interleaved_cell, forward_bytes};
 
+use crate::area::Area;
 use crate::motion::{DirectionMotion, FieldVector, FieldVectorPair, MotionVectorPel};
 use crate::samples::copy_samples;
 use combine_predictions::{
     PredictionDirection, average_predictions, combine_directional_predictions,
 };
-use forming_predictions::{BlockSize, FieldReference, ReferencePlane, predict_block};
-
-/// A block's place in a plane, and its sides. `y` and `height` count rows, or the lines of a field.
-#[derive(Clone, Copy)]
-pub(crate) struct Area {
-    pub(crate) x: usize,
-    pub(crate) y: usize,
-    pub(crate) width: usize,
-    pub(crate) height: usize,
-    ghost fits: { AreaFits x y width height },
-}
-
-impl Area {
-    /// How many samples it has.
-    pub(crate) fn bytes(self) -> usize
-        ensures { result ≡ self.width * self.height }
-    {
-        self.width * self.height
-    }
-
-    fn size(self) -> BlockSize
-        ensures { (result.width ≡ self.width) × (result.height ≡ self.height) }
-    {
-        BlockSize {
-            width: self.width,
-            height: self.height,
-        }
-    }
-}
+use forming_predictions::{FieldReference, ReferencePlane, predict_block};
 
 // The calls below refuse nothing of what they are given here, and their answers are let go: with an `unwrap`, which asks for nothing when it
 // runs, a field's block took 14 instructions more.

@@ -1,47 +1,19 @@
 //! ISO/IEC 13818-2, 7.6.4 to 7.6.7: the three components of a macroblock, of one direction or of two.
-ghost use Rattle.std.specs.Prelude.{◌≡◌, ◌++◌, ◌+◌, ◌*◌, ◌≤◌, length};
+ghost use Rattle.std.specs.Prelude.{◌≡◌, ◌++◌, ◌+◌, ◌*◌, length};
 ghost use Rattle.forming_predictions.specs.Means.{rounded};
 ghost use Rattle.inter_reconstruction.specs.declared.motion.Uses.TheVariants.{Both};
-ghost use Rattle.inter_reconstruction.specs.Components.{ColourComponent, block_width, block_height};
+ghost use Rattle.inter_reconstruction.specs.Components.{ColourComponent};
 ghost use Rattle.inter_reconstruction.specs.Frames.{read_frame, sides_of, samples_in};
-ghost use Rattle.inter_reconstruction.specs.Macroblock.{first_column, first_row, predicted};
+ghost use Rattle.inter_reconstruction.specs.Macroblock.{predicted};
 ghost use Rattle.inter_reconstruction.specs.inner.Blocks.{FieldRows};
 ghost use Rattle.inter_reconstruction.specs.inner.Planes.{FrameFits, CellFits, BlocksFit, directed_part, directed, chroma_blocks};
 
-use crate::blocks::{Area, predict_direction, predict_two, store_chosen};
+use crate::area::Area;
+use crate::blocks::{predict_direction, predict_two, store_chosen};
 use crate::frames::{FrameBuffer, chroma_mb_extent};
 use crate::motion::DirectionMotion;
 use combine_predictions::PredictionDirection;
 use pmv::kinds::ChromaFormat;
-
-/// The place of a macroblock's luminance, 16 × 16.
-fn luma_area(mb_col: usize, mb_row: usize) -> Area
-    requires { (mb_col ≤ 1023) × (mb_row ≤ 1023) }
-    ensures place { (result.x ≡ mb_col * 16) × (result.y ≡ mb_row * 16) }
-    ensures sides { (result.width ≡ 16) × (result.height ≡ 16) }
-{
-    Area {
-        x: mb_col * 16,
-        y: mb_row * 16,
-        width: 16,
-        height: 16,
-    }
-}
-
-/// The place of its Cb, and of its Cr.
-fn chroma_area(chroma_format: ChromaFormat, mb_col: usize, mb_row: usize) -> Area
-    requires { (mb_col ≤ 1023) × (mb_row ≤ 1023) }
-    ensures place { (result.x ≡ first_column chroma_format ColourComponent.cb mb_col) × (result.y ≡ first_row chroma_format ColourComponent.cb mb_row) }
-    ensures sides { (result.width ≡ block_width chroma_format ColourComponent.cb) × (result.height ≡ block_height chroma_format ColourComponent.cb) }
-{
-    let size = chroma_mb_extent(chroma_format);
-    Area {
-        x: mb_col * size.width,
-        y: mb_row * size.height,
-        width: size.width,
-        height: size.height,
-    }
-}
 
 // ---- the three components of one direction
 
@@ -61,8 +33,8 @@ fn predict_blocks(
     ensures cb_block_at_exit { cb_block.new ≡ directed_part chroma_format (read_frame (sides_of frame.entry) (samples_in frame.entry)) motion ColourComponent.cb mb_col mb_row }
     ensures cr_block_at_exit { cr_block.new ≡ directed_part chroma_format (read_frame (sides_of frame.entry) (samples_in frame.entry)) motion ColourComponent.cr mb_col mb_row }
 {
-    let luma_at = luma_area(mb_col, mb_row);
-    let chroma_at = chroma_area(chroma_format, mb_col, mb_row);
+    let luma_at = Area::luma(mb_col, mb_row);
+    let chroma_at = Area::chroma(chroma_format, mb_col, mb_row);
     let chroma = motion.chroma(chroma_format);
     predict_direction(frame.y, luma_at, motion, y_block);
     predict_direction(frame.cb, chroma_at, chroma, cb_block);
@@ -174,7 +146,7 @@ pub(crate) fn predict_from_two(
         forward_motion,
         backward.y,
         backward_motion,
-        luma_area(mb_col, mb_row),
+        Area::luma(mb_col, mb_row),
         &mut out[0..256],
     );
     predict_chroma(
@@ -182,7 +154,7 @@ pub(crate) fn predict_from_two(
         forward,
         backward_motion.chroma(chroma_format),
         backward,
-        chroma_area(chroma_format, mb_col, mb_row),
+        Area::chroma(chroma_format, mb_col, mb_row),
         &mut out[256..e],
     );
 }

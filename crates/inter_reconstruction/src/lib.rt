@@ -6,6 +6,8 @@
 pub mod frames;
 /// The motion of a macroblock, and which directions it is predicted from.
 pub mod motion;
+/// Where a macroblock's parts lie.
+mod area;
 /// The block of one component.
 mod blocks;
 /// The three components of a macroblock.

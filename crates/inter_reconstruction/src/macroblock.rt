@@ -60,6 +60,7 @@ fn same_geometry(a: FrameGeometry, b: FrameGeometry) -> bool
 }
 
 /// Each plane of a frame is in the domain: no side is too long, and it has as many samples as its sides say.
+#[tactic(auto, unfolding(crate::specs::Refusals::planes_fit))]
 pub fn planes_fit(frame: FrameSides, y: &[u8], cb: &[u8], cr: &[u8]) -> bool
     ensures { result ≡ planes_fit frame (lengths_of (samples_of y.now cb.now cr.now)) }
 {

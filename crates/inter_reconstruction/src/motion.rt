@@ -140,6 +140,7 @@ impl<V: DirectionVectors> Motion<V> {
     }
 }
 
+#[tactic(auto, unfolding(pmv::specs::Chroma::scaled))]
 fn chroma_vector(chroma_format: ChromaFormat, v: MotionVectorPel) -> MotionVectorPel
     ensures { result ≡ chroma_vector chroma_format v }
 {

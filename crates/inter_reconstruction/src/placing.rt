@@ -7,6 +7,7 @@ ghost use Rattle.inter_reconstruction.specs.Frames.{samples_of, lengths_of};
 ghost use Rattle.inter_reconstruction.specs.Placing.{place_at, stored, placed, whole_side, well_formed, cell_inside, picture_fits, placing_number, placing_refusal};
 ghost use Rattle.inter_reconstruction.specs.inner.Placing.{Room, Placeable};
 
+use crate::area::Area;
 use crate::frames::{FrameGeometry, FrameSides, chroma_mb_extent};
 use crate::macroblock::planes_fit;
 use crate::samples::copy_samples;
@@ -32,24 +33,16 @@ impl From<PlacingRefusal> for u32 {
     }
 }
 
-/// Writes a block to a plane of `width` columns, row after row, its first sample at column x and row y.
-fn place_block(
-    block: &[u8],
-    x: usize,
-    y: usize,
-    block_width: usize,
-    block_height: usize,
-    width: usize,
-    plane: &mut [u8],
-)
-    requires { Room x y block_width block_height width (length plane.old) (length block.now) }
-    ensures { plane.new ≡ stored (place_at width block_width x y) block.now plane.old }
+/// Writes a block to a plane of `width` columns, row after row.
+fn place_block(block: &[u8], at: Area, width: usize, plane: &mut [u8])
+    requires { Room at.x at.y at.width at.height width (length plane.old) (length block.now) }
+    ensures { plane.new ≡ stored (place_at width at.width at.x at.y) block.now plane.old }
 {
-    for r in 0..block_height {
-        let a = r * block_width;
-        let b = a + block_width;
-        let o = (y + r) * width + x;
-        let e = o + block_width;
+    for r in 0..at.height {
+        let a = r * at.width;
+        let b = a + at.width;
+        let o = (at.y + r) * width + at.x;
+        let e = o + at.width;
         copy_samples(&block[a..b], &mut plane[o..e]);
     }
 }
@@ -67,46 +60,21 @@ fn place_planes(
     requires { Placeable picture (lengths_of (samples_of y.old cb.old cr.old)) (length bytes.now) mb_col mb_row }
     ensures { samples_of y.new cb.new cr.new ≡ placed picture mb_col mb_row bytes.now (samples_of y.old cb.old cr.old) }
 {
-    let geometry = picture.geometry;
-    let chroma_format = geometry.chroma_format;
-    let size = chroma_mb_extent(chroma_format);
-    let width = size.width;
-    let height = size.height;
-    let y_plane = picture.y;
-    let cb_plane = picture.cb;
-    let cr_plane = picture.cr;
-    let a = 256 + width * height;
+    let chroma_at = Area::chroma(picture.geometry.chroma_format, mb_col, mb_row);
+    let a = 256 + chroma_at.bytes();
     let e = bytes.len();
     place_block(
         &bytes[0..256],
-        mb_col * 16,
-        mb_row * 16,
-        16,
-        16,
-        y_plane.width,
+        Area::luma(mb_col, mb_row),
+        picture.y.width,
         y,
     );
-    place_block(
-        &bytes[256..a],
-        mb_col * width,
-        mb_row * height,
-        width,
-        height,
-        cb_plane.width,
-        cb,
-    );
-    place_block(
-        &bytes[a..e],
-        mb_col * width,
-        mb_row * height,
-        width,
-        height,
-        cr_plane.width,
-        cr,
-    );
+    place_block(&bytes[256..a], chroma_at, picture.cb.width, cb);
+    place_block(&bytes[a..e], chroma_at, picture.cr.width, cr);
 }
 
 /// No side is over 16,384, and each plane has as many samples as its sides say.
+#[tactic(auto, unfolding(crate::specs::Placing::picture_fits))]
 fn picture_fits(picture: FrameSides, y: &[u8], cb: &[u8], cr: &[u8]) -> bool
     ensures { result ≡ picture_fits picture (lengths_of (samples_of y.now cb.now cr.now)) }
 {
@@ -143,6 +111,7 @@ fn chroma_sides(g: FrameGeometry) -> PlaneSides
 }
 
 /// The picture's sides are whole, and its planes fit them.
+#[tactic(auto, unfolding(crate::specs::Placing::well_formed))]
 fn well_formed(picture: FrameSides) -> bool
     ensures { result ≡ well_formed picture }
 {

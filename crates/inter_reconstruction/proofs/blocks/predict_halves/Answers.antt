@@ -51,19 +51,20 @@ module _ (read : PlaneReading) (pair : FieldVectorPair) (w h x line : ℕ) where
       rw (← n) (tab_self (block pair.top ++ block pair.bottom))
 
 pub loop-f-init : goal.loop-f-init
-loop-f-init c = rows_none _ _ _ _ (omega (arith, c.requires.1))
+loop-f-init c = rows_none _ _ _ _ (omega (arith, c.requires.1, c.bytes-n.ensures))
 
 pub loop-f-preserved : goal.loop-f-preserved
 loop-f-preserved c =
     let a = c.args in
+    let e = c.bytes-n.ensures in
     let less : c.loop-f.f < 2 = omega (arith, c.loop-f-test.true) in
     let read = read_plane a.plane.sides a.plane.samples.now in
     rows_step c.loop-f.invariant less
-    (as-part read a.pair a.at.width a.at.height a.at.x a.at.y _ _ _ (rows_part c.loop-f.invariant less) c.predict_lines.ensures)
-    (λ k h. in_halves read a.pair a.at.width a.at.height a.at.x a.at.y _ c.loop-f.f k less h)
+    (as-part read a.pair a.at.width a.at.height a.at.x a.at.y _ _ _ (rows_part c.loop-f.invariant less ∙ e) c.predict_lines.ensures)
+    (λ k h. rw e (in_halves read a.pair a.at.width a.at.height a.at.x a.at.y _ c.loop-f.f k less (rw e at h)))
 
 pub returns : goal.returns
 returns c =
     let a = c.args in
     rows_all c.loop-f.invariant (omega (arith, c.loop-f-test.false))
-    ∙ whole (read_plane a.plane.sides a.plane.samples.now) a.pair a.at.width a.at.height a.at.x a.at.y
+    ∙ rw c.bytes-n.ensures (whole (read_plane a.plane.sides a.plane.samples.now) a.pair a.at.width a.at.height a.at.x a.at.y)

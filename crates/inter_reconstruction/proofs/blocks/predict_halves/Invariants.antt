@@ -7,4 +7,4 @@ use Rattle.inter_reconstruction.proofs.blocks.predict_halves.Given as goal
 
 abbrev pub invariant-loop-f : goal.invariant-loop-f
 invariant-loop-f l =
-    RowsFilled (λ (k : ℕ). get_or (field_halves (read_plane l.plane.sides l.plane.samples.now) l.fn.pair l.at.width l.at.height l.at.x l.at.y) k 0) l.initial.out (l.at.width * l.at.height) 2 l.f l.out
+    RowsFilled (λ (k : ℕ). get_or (field_halves (read_plane l.plane.sides l.plane.samples.now) l.fn.pair l.at.width l.at.height l.at.x l.at.y) k 0) l.initial.out l.n 2 l.f l.out

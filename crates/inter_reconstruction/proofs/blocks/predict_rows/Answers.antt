@@ -9,7 +9,7 @@ pub returns : goal.returns
 returns c =
     let a = c.args in
     let at = a.at in
-    let b = c.well_formed.at.fits in
+    let b = at.fits in
     let h : FitsSigned w32 a.v.horizontal = search rules in
     let v : FitsSigned w32 a.v.vertical = search rules in
     let x = to_z_pos w32 at.x (omega (arith, b.left)) in

@@ -14,7 +14,7 @@ returns c =
     let e = c.chroma_mb_extent-size.ensures in
     let b = c.predict_blocks in
     let n = s.width * s.height in
-    let bytes = chroma_bytes c.args.chroma_format _ _ e.0 e.1 in
+    let bytes = chroma_bytes c.args.chroma_format e.0 e.1 in
     let cbs = front_is n b.new.cb_block (drop n (blank 256)) (ap length b.ensures.cb_block_at_exit ∙ rectangle_length _ _ _ _ _ ∙ sym bytes) ∙ b.ensures.cb_block_at_exit in
     let crs = front_is n b.new.cr_block (drop n (blank 256)) (ap length b.ensures.cr_block_at_exit ∙ rectangle_length _ _ _ _ _ ∙ sym bytes) ∙ b.ensures.cr_block_at_exit in
     c.store_blocks.ensures ∙ (λ i. b.ensures.y_block_at_exit i ++ (cbs i ++ crs i))

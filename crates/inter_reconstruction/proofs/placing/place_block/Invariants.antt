@@ -6,6 +6,6 @@ use Rattle.inter_reconstruction.proofs.placing.place_block.Given as goal
 
 abbrev pub invariant-loop-r : goal.invariant-loop-r
 invariant-loop-r l = record {
-  within : l.r ≤ l.block_height;
-  rows : RowsPlaced l.x l.y l.block_width l.width l.r l.block l.initial.plane l.plane;
+  within : l.r ≤ l.at.height;
+  rows : RowsPlaced l.at.x l.at.y l.at.width l.width l.r l.block l.initial.plane l.plane;
 }
