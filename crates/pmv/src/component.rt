@@ -55,6 +55,7 @@ pub struct ReconstructedComponent {
 // ---- delta
 
 /// f, which is 2 to the power f_code - 1.
+#[tactic(auto, using(crate::proofs::Deltas::f_code_range, crate::proofs::Deltas::scale_range, crate::proofs::Deltas::shifted))]
 fn scale_of(f_code: u8) -> u32
     requires { f_code_refusal f_code ≡ None }
     ensures { (result ≡ scale f_code) × (1 ≤ result) × (result ≤ 256) }
@@ -169,6 +170,7 @@ pub fn vector_range(f_code: u8) -> Result<VectorRange, VectorRefusal>
 
 impl Bounds {
     /// low, high and range for f.
+    #[tactic(auto, using(crate::proofs::Ranges::range_small, crate::proofs::Ranges::low_fits, crate::proofs::Ranges::high_fits), unfolding(crate::specs::Component::range_of))]
     fn of_scale(f: u32) -> Self
         requires { f ≤ 256 }
         ensures { result.ends ≡ range_of f }
@@ -229,6 +231,7 @@ impl Bounds {
     }
 
     /// A component from its delta.
+    #[tactic(auto, using(laws::proofs::Bits::widened), unfolding(crate::specs::Component::from_delta_refusal))]
     fn component(
         self,
         halved: bool,
