@@ -1,15 +1,15 @@
 -- Inputs and answers as numbers. For the benchmark alone: nothing here is from the standard or from docs/SCOPE.md.
-use Rattle.std.specs.Prelude.{Bool, not, cond, List, [], ◌∷◌, ℕ, ◌+◌, eqb, ltb, ℤ, Option, Some, None, Result, Ok, Err}
-use Rattle.pmv.specs.Kinds.{type_from}
+use Rattle.std.specs.Prelude.{Bool, not, cond, List, [], ◌∷◌, ℕ, ◌+◌, eqb, ltb, ℤ, Option, Some, None, unwrap_or, Result, Ok, Err}
+use Rattle.pmv.specs.Kinds.{direction_from, index_from, format_from, structure_from, type_from}
 use Rattle.pmv.specs.Refusals.{vector_number, update_number}
 use Rattle.pmv.specs.Update.{outcome_number}
 use Rattle.pmv.specs.declared.kinds.PictureStructure.{PictureStructure}
 use Rattle.pmv.specs.declared.kinds.PredictionType.{PredictionType}
 use Rattle.pmv.specs.declared.kinds.MvFormat.{MvFormat}
 use Rattle.pmv.specs.declared.kinds.VectorIndex.{VectorIndex}
-use Rattle.pmv.specs.declared.kinds.VectorIndex.TheVariants.{First, Second}
+use Rattle.pmv.specs.declared.kinds.VectorIndex.TheVariants.{Second}
 use Rattle.pmv.specs.declared.kinds.Direction.{Direction}
-use Rattle.pmv.specs.declared.kinds.Direction.TheVariants.{Forward, Backward}
+use Rattle.pmv.specs.declared.kinds.Direction.TheVariants.{Backward}
 use Rattle.pmv.specs.declared.component.VectorRefusal.{VectorRefusal}
 use Rattle.pmv.specs.declared.predictors.Pmv.{Pmv}
 use Rattle.pmv.specs.declared.update.PmvUpdateContext.{PmvUpdateContext}
@@ -18,21 +18,22 @@ use Rattle.pmv.specs.declared.update.UpdateRefusal.{UpdateRefusal}
 use Rattle.pmv.specs.declared.vector.MotionVector.{MotionVector}
 use Rattle.pmv.specs.declared.vector.VectorComponents.{VectorComponents}
 
+-- a kind's number, and any other number as the last of the kinds
 abbrev pub structure_of : ℕ → PictureStructure
-structure_of n = cond (eqb n 0) PictureStructure.TopField (cond (eqb n 1) PictureStructure.BottomField PictureStructure.Frame)
+structure_of n = unwrap_or (structure_from n) PictureStructure.Frame
+
+abbrev pub format_of : ℕ → MvFormat
+format_of n = unwrap_or (format_from n) MvFormat.Frame
+
+abbrev pub index_of : ℕ → VectorIndex
+index_of n = unwrap_or (index_from n) Second
+
+abbrev pub direction_of : ℕ → Direction
+direction_of n = unwrap_or (direction_from n) Backward
 
 -- a type's number, and else none
 abbrev pub type_of : ℕ → Option PredictionType
 type_of n = type_from n
-
-abbrev pub format_of : ℕ → MvFormat
-format_of n = cond (eqb n 0) MvFormat.Field MvFormat.Frame
-
-abbrev pub index_of : ℕ → VectorIndex
-index_of n = cond (eqb n 0) First Second
-
-abbrev pub direction_of : ℕ → Direction
-direction_of n = cond (eqb n 0) Forward Backward
 
 -- a byte, and else none
 abbrev pub residual_of : ℕ → Option ℕ

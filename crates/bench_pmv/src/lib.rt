@@ -4,58 +4,13 @@
 ghost use Rattle.std.specs.Prelude.{◌≡◌};
 ghost use Rattle.pmv.specs.Update.{updated};
 ghost use Rattle.pmv.specs.Vector.{ported, reconstructed};
-ghost use Rattle.bench_pmv.specs.Inputs.{structure_of, type_of, format_of, index_of, direction_of, residual_of, context_of, vector_of, pmv_of, update_code, vector_code, components_or};
+ghost use Rattle.bench_pmv.specs.Inputs.{structure_of, format_of, index_of, direction_of, residual_of, context_of, vector_of, pmv_of, update_code, vector_code, components_or};
 
 use pmv::component::VectorRefusal;
 use pmv::kinds::{Component, Direction, MvFormat, PictureStructure, PredictionType, VectorIndex};
 use pmv::predictors::{Pmv, PredictorPair};
 use pmv::update::{PmvUpdateContext, PmvUpdateOutcome, UpdateRefusal};
 use pmv::vector::{MotionVector, VectorComponents};
-
-fn structure_of(n: u32) -> PictureStructure
-    ensures { result ≡ structure_of n }
-{
-    if n == 0 {
-        return PictureStructure::TopField;
-    }
-    if n == 1 {
-        return PictureStructure::BottomField;
-    }
-    PictureStructure::Frame
-}
-
-fn type_of(n: u32) -> Option<PredictionType>
-    ensures { result ≡ type_of n }
-{
-    PredictionType::try_from(n).ok()
-}
-
-fn format_of(n: u32) -> MvFormat
-    ensures { result ≡ format_of n }
-{
-    if n == 0 {
-        return MvFormat::Field;
-    }
-    MvFormat::Frame
-}
-
-fn index_of(n: u32) -> VectorIndex
-    ensures { result ≡ index_of n }
-{
-    if n == 0 {
-        return VectorIndex::First;
-    }
-    VectorIndex::Second
-}
-
-fn direction_of(n: u32) -> Direction
-    ensures { result ≡ direction_of n }
-{
-    if n == 0 {
-        return Direction::Forward;
-    }
-    Direction::Backward
-}
 
 fn residual_of(n: u32) -> Option<u8>
     ensures { result ≡ residual_of n }
@@ -115,8 +70,10 @@ pub extern "C" fn fozdrik_bench_update(
     let update = pmv::update::updated_predictors(
         Pmv { values: values },
         PmvUpdateContext {
-            picture_structure: structure_of(structure),
-            prediction_type: type_of(prediction_type),
+            picture_structure: PictureStructure::try_from(structure).unwrap_or(
+                PictureStructure::Frame,
+            ),
+            prediction_type: PredictionType::try_from(prediction_type).ok(),
             macroblock_motion_forward: forward != 0,
             macroblock_motion_backward: backward != 0,
             macroblock_intra: intra != 0,
@@ -151,8 +108,8 @@ pub extern "C" fn fozdrik_bench_vector(
     ensures buffer { predictors.new ≡ (reconstructed (pmv_of predictors.old) (vector_of code_h residual_h code_v residual_v) (index_of r) (direction_of s) f_code_h f_code_v (format_of format) (structure_of structure) ported).pmv.values }
     ensures components { vector.new ≡ components_or vector.old (reconstructed (pmv_of predictors.old) (vector_of code_h residual_h code_v residual_v) (index_of r) (direction_of s) f_code_h f_code_v (format_of format) (structure_of structure) ported).answer }
 {
-    let index = index_of(r);
-    let direction = direction_of(s);
+    let index = VectorIndex::try_from(r).unwrap_or(VectorIndex::Second);
+    let direction = Direction::try_from(s).unwrap_or(Direction::Backward);
     let h = pmv::predictors::place_of(index, direction, Component::Horizontal);
     let v = pmv::predictors::place_of(index, direction, Component::Vertical);
     let decoded = pmv::vector::reconstructed_pair(
@@ -168,8 +125,8 @@ pub extern "C" fn fozdrik_bench_vector(
         },
         f_code_h,
         f_code_v,
-        format_of(format),
-        structure_of(structure),
+        MvFormat::try_from(format).unwrap_or(MvFormat::Frame),
+        PictureStructure::try_from(structure).unwrap_or(PictureStructure::Frame),
     );
     let after = decoded.predictors;
     let after_h = after.horizontal;

@@ -2,13 +2,13 @@
 -- Assumes nothing.
 use mathlib.Core.Path.{◌≡◌, refl, sym, ◌∙◌}
 use mathlib.Core.Bool.{Bool, true, false, ◌&&◌, ◌||◌}
-use Prim.Native.Nat.{ℕ, suc, ◌-◌, ◌^◌, ◌≤◌}
-use native.Mathlib.Nat.{pow-le-pow_right}
+use Prim.Native.Nat.{ℕ, suc, ◌*◌, ◌-◌, ◌%◌, ◌^◌, ◌≤◌}
+use native.Mathlib.Nat.{one-mul, pow-le-pow_right}
 use native.Mathlib.Omega.{arith}
 use lib.Dec.{eqb, leb}
 use lib.IntN.{ℤ, pos, negsuc, nat_abs}
 use lib.Signed.{le_z}
-use lib.Pow.{pow_pos}
+use lib.Pow.{pow_pos, shl_exact}
 use borrow.Author.Tests.{eqb-false, ne_eqb}
 use mir.Syntax.{w32}
 use mir.Val.{SFits, of_z}
@@ -28,6 +28,13 @@ f_code_range k e = range 1 9 k (no_cause (leb 1 k && leb k 9) FCodeOutside e)
 pub scale_range : (k : ℕ) → k ≤ 9 → (1 ≤ scale k) × (scale k ≤ 256)
 unfolding scale
 scale_range k h = (pow_pos (k - 1), pow-le-pow_right {n = 2} (omega arith) {i = k - 1} {j = 8} (omega arith))
+
+-- f is made by a shift, which loses no bit
+pub shifted : (k : ℕ) → f_code_refusal k ≡ None → (1 * 2 ^ (k - 1)) % 4294967296 ≡ scale k
+unfolding scale
+shifted k e =
+    let r = f_code_range k e in
+    shl_exact {a = 1} 1 (k - 1) 32 (omega (arith, r.0)) (omega (arith, r.1)) ∙ one-mul (2 ^ (k - 1))
 
 -- ---- motion_code
 pub code_within : (z : ℤ) → code_fits z ≡ true → Within 16 z

@@ -1,10 +1,10 @@
 //! ISO/IEC 13818-2, 7.6.3.1: one component of a motion vector, in half samples.
-ghost use Rattle.std.specs.Prelude.{◌≡◌, false, ◌+◌, ◌≤◌, nat_abs, ◌+ℤ◌, ◌-ℤ◌, Some, None};
+ghost use Rattle.std.specs.Prelude.{◌≡◌, false, ◌+◌, ◌≤◌, ◌+ℤ◌, ◌-ℤ◌, None};
 ghost use Rattle.std.specs.Result.{result_ok, result_err};
 ghost use Rattle.laws.proofs.Bounded.{Within};
 ghost use Rattle.combine_predictions.specs.Refusals.{answered, value_unless};
 ghost use Rattle.pmv.specs.Refusals.{vector_number};
-ghost use Rattle.pmv.specs.Delta.{scale, is_plain, with_sign, delta, f_code_fits, code_fits, residual_refusal, f_code_refusal, delta_refusal};
+ghost use Rattle.pmv.specs.Delta.{scale, is_plain, delta, residual_value, f_code_fits, code_fits, residual_refusal, f_code_refusal, delta_refusal};
 ghost use Rattle.pmv.specs.Component.{range_of, in_range, halves, prediction, raised, lowered, vector_of, new_predictor, from_delta, from_delta_refusal, delta_of, component_of, component_refusal};
 ghost use Rattle.pmv.specs.inner.Bounds.{Small};
 
@@ -55,6 +55,7 @@ pub struct ReconstructedComponent {
 // ---- delta
 
 /// f, which is 2 to the power f_code - 1.
+#[tactic(auto, using(crate::proofs::Deltas::f_code_range, crate::proofs::Deltas::scale_range, crate::proofs::Deltas::shifted))]
 fn scale_of(f_code: u8) -> u32
     requires { f_code_refusal f_code ≡ None }
     ensures { (result ≡ scale f_code) × (1 ≤ result) × (result ≤ 256) }
@@ -76,71 +77,53 @@ fn code_fits(motion_code: i32) -> bool
     (-16 <= motion_code) & (motion_code <= 16)
 }
 
-/// Whether delta is the code, and there is no residual.
-#[tactic(auto, using(crate::proofs::Deltas::plain_bits))]
-fn is_plain(f: u32, motion_code: i32) -> bool
-    ensures { result ≡ is_plain f motion_code }
-{
-    (f == 1) | (motion_code == 0)
+/// A motion_code that fits, and f. They are small, so that no product or sum with them wraps.
+#[derive(Clone, Copy)]
+struct ScaledCode {
+    motion_code: i32,
+    f: u32,
+    ghost code: { Within 16 motion_code },
+    ghost scale: { f ≤ 256 },
 }
 
-/// Abs(motion_code).
-fn absolute(motion_code: i32) -> u32
-    requires { Within 16 motion_code }
-    ensures { result ≡ nat_abs motion_code }
-{
-    if motion_code < 0 {
-        return (0 - motion_code) as u32;
+impl ScaledCode {
+    /// Whether delta is the code, and there is no residual.
+    #[tactic(auto, using(crate::proofs::Deltas::plain_bits))]
+    fn is_plain(self) -> bool
+        ensures { result ≡ is_plain self.f self.motion_code }
+    {
+        (self.f == 1) | (self.motion_code == 0)
     }
-    motion_code as u32
-}
 
-fn with_sign(motion_code: i32, m: u32) -> i32
-    requires { m ≤ 4096 }
-    ensures { result ≡ with_sign motion_code m }
-{
-    let d = m as i32;
-    if motion_code < 0 {
-        return 0 - d;
+    /// delta of a code that is not plain.
+    #[tactic(auto, using(crate::proofs::Deltas::not_plain), unfolding(crate::specs::Delta::delta))]
+    fn with_residual(self, residual: u8) -> i32
+        requires { is_plain self.f self.motion_code ≡ false }
+        ensures { result ≡ delta self.f self.motion_code residual }
+    {
+        let m = (self.motion_code.unsigned_abs() - 1) * self.f + residual as u32 + 1;
+        let d = m as i32;
+        if self.motion_code < 0 { -d } else { d }
     }
-    d
-}
 
-/// delta of a code that is not plain.
-#[tactic(auto, using(crate::proofs::Deltas::not_plain), unfolding(crate::specs::Delta::delta))]
-fn scaled_delta(motion_code: i32, residual: u32, f: u32) -> i32
-    requires { Within 16 motion_code × (residual ≤ 255) × (f ≤ 256) × (is_plain f motion_code ≡ false) }
-    ensures { result ≡ delta f motion_code residual }
-{
-    with_sign(motion_code, (absolute(motion_code) - 1) * f + residual + 1)
-}
-
-/// delta where there is no residual. f is asked for first: where it is 1, no jump depends on the code.
-#[tactic(auto, unfolding(crate::specs::Delta::is_plain, crate::specs::Delta::delta))]
-fn delta_without(motion_code: i32, f: u32) -> Result<i32, VectorRefusal>
-    ensures { result ≡ answered (residual_refusal (is_plain f motion_code) None) (delta f motion_code 0) }
-{
-    if f == 1 {
-        return Ok(motion_code);
+    /// delta. Where there is no residual f is asked for first: where it is 1, no jump depends on the code. The two tests are not joined by `||`:
+    /// so joined, a vector of f_codes 1 took 164 instructions for 152.
+    #[tactic(auto, unfolding(crate::specs::Delta::is_plain, crate::specs::Delta::delta))]
+    fn delta(self, motion_residual: Option<u8>) -> Result<i32, VectorRefusal>
+        ensures { result ≡ answered (residual_refusal (is_plain self.f self.motion_code) motion_residual) (delta self.f self.motion_code (residual_value motion_residual)) }
+    {
+        match motion_residual {
+            None if self.f == 1 => Ok(self.motion_code),
+            None if self.motion_code == 0 => Ok(self.motion_code),
+            None => Err(VectorRefusal::ResidualMissing),
+            Some(_) if self.is_plain() => Err(VectorRefusal::ResidualForbidden),
+            Some(residual) => Ok(self.with_residual(residual)),
+        }
     }
-    if motion_code == 0 {
-        return Ok(motion_code);
-    }
-    Err(VectorRefusal::ResidualMissing)
 }
 
-/// delta where there is one.
-fn delta_with(motion_code: i32, residual: u8, f: u32) -> Result<i32, VectorRefusal>
-    requires { Within 16 motion_code × (f ≤ 256) }
-    ensures { result ≡ answered (residual_refusal (is_plain f motion_code) (Some residual)) (delta f motion_code residual) }
-{
-    if is_plain(f, motion_code) {
-        return Err(VectorRefusal::ResidualForbidden);
-    }
-    Ok(scaled_delta(motion_code, residual as u32, f))
-}
-
-/// How far a component is from its prediction, in half samples.
+/// How far a component is from its prediction, in half samples. A code, its residual and its f_code are three parameters, as the Rust's: no
+/// private function takes all three.
 #[tactic(auto, using(crate::proofs::Deltas::code_within), unfolding(crate::specs::Delta::code_refusal, crate::specs::Delta::delta_refusal))]
 pub fn compute_delta(
     motion_code: i32,
@@ -157,11 +140,11 @@ pub fn compute_delta(
     if !code_fits(motion_code) {
         return Err(VectorRefusal::CodeOutside);
     }
-    let f = scale_of(f_code);
-    match motion_residual {
-        None => delta_without(motion_code, f),
-        Some(residual) => delta_with(motion_code, residual, f),
-    }
+    let code = ScaledCode {
+        motion_code: motion_code,
+        f: scale_of(f_code),
+    };
+    code.delta(motion_residual)
 }
 
 // ---- range
@@ -187,6 +170,7 @@ pub fn vector_range(f_code: u8) -> Result<VectorRange, VectorRefusal>
 
 impl Bounds {
     /// low, high and range for f.
+    #[tactic(auto, using(crate::proofs::Ranges::range_small, crate::proofs::Ranges::low_fits, crate::proofs::Ranges::high_fits), unfolding(crate::specs::Component::range_of))]
     fn of_scale(f: u32) -> Self
         requires { f ≤ 256 }
         ensures { result.ends ≡ range_of f }
@@ -247,6 +231,7 @@ impl Bounds {
     }
 
     /// A component from its delta.
+    #[tactic(auto, using(laws::proofs::Bits::widened), unfolding(crate::specs::Component::from_delta_refusal))]
     fn component(
         self,
         halved: bool,

@@ -4,7 +4,7 @@ ghost use Rattle.pmv.specs.Predictors.{pmv_index, predictor, stored, pair_of, pa
 
 use crate::kinds::{Component, Direction, VectorIndex};
 
-/// The eight predictors in half samples: PMV\[r\]\[s\]\[t\] is at 4r + 2s + t.
+/// The eight predictors in half samples: PMV\[r\]\[s\]\[t\] is at 4r + 2s + t. A list of eight, in fixed memory; no length stands beside it.
 #[derive(Clone, Copy, Debug, PartialEq, Eq)]
 pub struct Pmv {
     pub values: [i32; 8],

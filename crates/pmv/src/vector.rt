@@ -2,7 +2,6 @@
 ghost use Rattle.std.specs.Prelude.{◌≡◌, false};
 ghost use Rattle.std.specs.Result.{result_ok, result_err};
 ghost use Rattle.combine_predictions.specs.Refusals.{value_unless};
-ghost use Rattle.pmv.specs.Component.{halves};
 ghost use Rattle.pmv.specs.Predictors.{pair_of};
 ghost use Rattle.pmv.specs.Vector.{ported, part_refusal, part, decoded, vector_refusal, components, reconstructed_pair, reconstructed};
 ghost use Rattle.pmv.specs.inner.Steps.{joined};
@@ -48,46 +47,7 @@ pub struct DecodedVector {
     pub pmv: Pmv,
 }
 
-/// A component against its predictor, which takes the new value unless the component is refused.
-#[tactic(auto, unfolding(crate::specs::Vector::decoded))]
-fn decode(
-    pmv: Pmv,
-    r: VectorIndex,
-    s: Direction,
-    t: Component,
-    motion_code: i32,
-    motion_residual: Option<u8>,
-    f_code: u8,
-    mv_format: MvFormat,
-    picture: PictureStructure,
-) -> DecodedComponent
-    ensures { result ≡ decoded pmv r s t f_code motion_code motion_residual (halves mv_format picture t) ported }
-{
-    let prior = pmv.predictor(r, s, t);
-    match reconstruct_component(
-        motion_code,
-        motion_residual,
-        f_code,
-        prior,
-        mv_format,
-        picture,
-        t,
-    ) {
-        Err(refusal) => DecodedComponent {
-            answer: Err(refusal),
-            pmv: pmv,
-        },
-        Ok(c) => {
-            let kept = pmv.with(r, s, t, c.new_pmv);
-            DecodedComponent {
-                answer: Ok(c),
-                pmv: kept,
-            }
-        }
-    }
-}
-
-/// One component, never halved: as for a frame vector.
+/// One component against its predictor, which takes the new value unless the component is refused; never halved, as for a frame vector.
 #[tactic(auto, unfolding(crate::specs::Component::halves, crate::specs::Vector::decoded))]
 pub fn decoded_motion_vector(
     pmv: Pmv,
@@ -102,17 +62,25 @@ pub fn decoded_motion_vector(
     ensures refusal { result_err result.answer ≡ part_refusal pmv r s t f_code motion_code motion_residual false ported }
     ensures value { result_ok result.answer ≡ value_unless (result_err result.answer) (part pmv r s t f_code motion_code motion_residual false) }
 {
-    decode(
-        pmv,
-        r,
-        s,
-        t,
+    let prior = pmv.predictor(r, s, t);
+    match reconstruct_component(
         motion_code,
         motion_residual,
         f_code,
+        prior,
         MvFormat::Frame,
         PictureStructure::Frame,
-    )
+        t,
+    ) {
+        Err(refusal) => DecodedComponent {
+            answer: Err(refusal),
+            pmv: pmv,
+        },
+        Ok(c) => DecodedComponent {
+            answer: Ok(c),
+            pmv: pmv.with(r, s, t, c.new_pmv),
+        },
+    }
 }
 
 /// The vertical component's answer, after the horizontal component was stored.
@@ -156,11 +124,9 @@ pub fn reconstructed_pair(
     ensures refusal { result_err result.answer ≡ vector_refusal prior mv f_code_horiz f_code_vert mv_format picture ported }
     ensures value { result_ok result.answer ≡ value_unless (result_err result.answer) (components prior mv f_code_horiz f_code_vert mv_format picture) }
 {
-    let residual_horiz = mv.motion_residual_horiz;
-    let residual_vert = mv.motion_residual_vert;
     match reconstruct_component(
         mv.motion_code_horiz,
-        residual_horiz,
+        mv.motion_residual_horiz,
         f_code_horiz,
         prior.horizontal,
         mv_format,
@@ -178,7 +144,7 @@ pub fn reconstructed_pair(
             };
             let vertical = reconstruct_component(
                 mv.motion_code_vert,
-                residual_vert,
+                mv.motion_residual_vert,
                 f_code_vert,
                 prior.vertical,
                 mv_format,

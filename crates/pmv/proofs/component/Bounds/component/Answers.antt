@@ -1,4 +1,4 @@
--- The two tests are those of 5 and 6; a vector that passes them is small, so that the casts and the doubling keep it.
+-- A vector that passes both tests is small, so that the casts and the doubling keep it.
 -- Assumes nothing.
 use Rattle.std.proofs.Common.{arith}
 use Rattle.std.proofs.lemmas.Grind.{common_steps}
@@ -10,14 +10,6 @@ use Rattle.laws.proofs.Bounded.{Within, within_fits}
 use Rattle.pmv.specs.Component.{from_delta, from_delta_refusal}
 use Rattle.pmv.proofs.Ranges.{range_fits, in_range_within}
 use Rattle.pmv.proofs.component.Bounds.component.Goals as goal
-
-pub returns-then-not-contains : goal.returns-then-not-contains
-unfolding from_delta_refusal
-returns-then-not-contains c = grind (arith, common_steps, widened)
-
-pub returns-then-not-contains-2 : goal.returns-then-not-contains-2
-unfolding from_delta_refusal
-returns-then-not-contains-2 c = grind (arith, common_steps, to_z-of_z, widened)
 
 pub next_predictor-requires : goal.next_predictor-requires
 next_predictor-requires c =
