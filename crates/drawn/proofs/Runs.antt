@@ -13,3 +13,7 @@ number_after_none s = refl
 pub number_after_next : (s k : ℕ) → number_after s (k + 1) ≡ next_number (number_after s k)
 unfolding number_after
 number_after_next s k = rw (add-one k)
+
+pub number_after_three : (s : ℕ) → number_after s 3 ≡ next_number (next_number (next_number s))
+unfolding number_after
+number_after_three s = refl

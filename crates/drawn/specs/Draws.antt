@@ -5,8 +5,19 @@ use Rattle.laws.specs.Tabulate.{tabulate}
 abbrev pub next_number : ℕ → ℕ
 next_number s = (s % 2147483648 * 1103515245 + 12345) % 2147483648
 
+abbrev pub bits_of : ℕ → ℕ
+bits_of s = s / 65536
+
 abbrev pub byte_of : ℕ → ℕ
 byte_of s = s / 65536 % 256
+
+-- what three draws give together
+abbrev pub number_of_45 : ℕ → ℕ
+number_of_45 s =
+    let one = next_number s in
+    let two = next_number one in
+    let three = next_number two in
+    (bits_of one * 32768 + bits_of two) * 32768 + bits_of three
 
 -- the number after so many draws
 unfoldable pub number_after : ℕ → ℕ → ℕ

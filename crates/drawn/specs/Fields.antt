@@ -1,7 +1,9 @@
--- What a line says of the planes of a reference.
-use Rattle.std.specs.Prelude.{◌≡◌, List, [], ℕ, ◌+◌, ◌≤◌, ℤ, pos}
+-- What a line says of a frame, and of the planes of a reference.
+use Rattle.std.specs.Prelude.{◌≡◌, List, [], ℕ, ◌+◌, ◌≤◌, ℤ, pos, Some}
 use Rattle.lists.specs.Text.{word_at, word_end}
 use Rattle.lists.specs.Numbers.{number_of}
+use Rattle.pmv.specs.Kinds.{chroma_from}
+use Rattle.inter_reconstruction.specs.declared.frames.FrameGeometry.{FrameGeometry}
 use Rattle.drawn.specs.Draws.{number_after, drawn}
 use Rattle.drawn.specs.declared.references.Extent.{Extent}
 use Rattle.drawn.specs.declared.references.Plane.{Plane}
@@ -30,6 +32,14 @@ pub record ExtentAt (s : List ℕ) (at : ℕ) (e : Extent) : Type 0 where
   pub width : pos e.sides.width ≡ field s at
   pub height : pos e.sides.height ≡ field s (word_end s at)
   pub length : pos e.length ≡ field s (word_end s (word_end s at))
+
+-- WIDTH HEIGHT CHROMA
+pub record GeometryAt (s : List ℕ) (at : ℕ) (g : FrameGeometry) : Type 0 where
+  pub chroma : ℕ
+  pub width : pos g.width ≡ field s at
+  pub height : pos g.height ≡ field s (word_end s at)
+  pub chroma_at : pos chroma ≡ field s (word_end s (word_end s at))
+  pub chroma_format : chroma_from chroma ≡ Some g.chroma_format
 
 -- a plane of an extent, whose samples are the next of a run
 pub record DrawnFrom (last : ℕ) (e : Extent) (p : Plane) : Type 0 where

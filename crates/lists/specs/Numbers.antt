@@ -38,3 +38,9 @@ number_at s at = cond (is_number (word_at s at)) (Ok (number_of (word_at s at)))
 
 abbrev pub IsNumberAt : List ℕ → ℕ → Type 0
 IsNumberAt s at = is_number (word_at s at) ≡ true
+
+-- the number at a place is one of which this answer may be given
+pub record IsKindAt {K E : Type 0} (answers : ℕ → Result K E → Type 0) (s : List ℕ) (at : ℕ) (answer : Result K E) : Type 0 where
+  pub number : ℕ
+  pub there : number_at s at ≡ Ok (pos number)
+  pub answered : answers number answer

@@ -1,5 +1,5 @@
 //! Hexadecimal byte strings.
-ghost use Rattle.std.specs.Prelude.{◌≡◌, ◌+◌, ◌*◌, ◌/◌, ◌≤◌, cond, length, Ok, Err};
+ghost use Rattle.std.specs.Prelude.{◌≡◌, ◌+◌, ◌*◌, ◌/◌, ◌≤◌, cond, length, Ok, Err, IfOk, vec_len};
 ghost use Rattle.std.specs.Result.{MatchResult};
 ghost use Rattle.laws.specs.Tabulate.{tabulate};
 ghost use Rattle.lists.specs.Places.{MovesTo};
@@ -10,13 +10,14 @@ ghost use Rattle.lists.specs.ByteStrings.{hex_of, bytes_of, is_bytes, stored, ra
 use crate::class::Class;
 use crate::cursor::Cursor;
 use crate::unread::Unread;
-use std::alloc::Allocator;
+use std::alloc::{AllocError, Allocator};
 
 impl Cursor<'_> {
     /// Reads a byte string into the front of `out`, and gives its length. Where none stands that `out` has room for, `out` stays as it was.
     pub fn bytes_into(&mut self, out: &mut [u8]) -> Result<usize, Unread>
         ensures count { let word = word_at self.old.text.now self.old.at in
             result ≡ cond (is_bytes word (length out.old)) (Ok (length word / 2)) (Err Malformed) }
+        ensures within { IfOk result (λ n. n ≤ length out.old) }
         ensures buffer { out.new ≡ stored (word_at self.old.text.now self.old.at) out.old }
         ensures moved { MovesTo self.old self.new (word_end self.old.text.now self.old.at) }
     {
@@ -29,7 +30,7 @@ impl Cursor<'_> {
         Ok(n)
     }
 
-    /// Reads a byte string of at most so many bytes.
+    /// Reads a byte string of at most so many bytes, into memory of its own. Where there is none left it is not read: `bytes_into` asks for none.
     pub fn bytes<A: Allocator>(&mut self, alloc: A, most: usize) -> Result<Vec<u8, A>, Unread>
         ensures bytes { MatchResult result (λ v. BytesAt self.old.text.now self.old.at most (Ok v.items)) (λ e. BytesAt self.old.text.now self.old.at most (Err e)) }
         ensures moved { MovesTo self.old self.new (word_end self.old.text.now self.old.at) }
@@ -89,4 +90,14 @@ pub fn fill(s: &mut [u8], b: u8)
     for (i, byte) in s.iter_mut().enumerate() {
         *byte = b.wrapping_add((i % 256) as u8);
     }
+}
+
+/// These bytes, so many.
+pub fn ramp<A: Allocator>(alloc: A, b: u8, count: usize) -> Result<Vec<u8, A>, AllocError>
+    ensures bytes { IfOk result (λ v. v.items ≡ tabulate count (ramp b)) }
+    ensures count { IfOk result (λ v. vec_len v ≡ count) }
+{
+    let mut bytes = vec![in alloc; 0; count]?;
+    fill(&mut bytes, b);
+    Ok(bytes)
 }

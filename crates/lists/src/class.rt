@@ -3,7 +3,7 @@ ghost use Rattle.std.specs.Prelude.{◌≡◌, ◌≤◌, length};
 ghost use Rattle.std.specs.List.{prefix_len};
 ghost use Rattle.lists.specs.Text.{in_class};
 
-/// Classes of bytes.
+/// Classes of bytes: kinds of them, which all calls tell apart by `has`, and no steps that a closure could be.
 #[derive(Clone, Copy)]
 pub enum Class {
     Blank,

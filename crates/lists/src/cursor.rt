@@ -1,12 +1,11 @@
 //! A place in a text. The reading that moves it is in `words`, `numbers` and `byte_strings`.
-ghost use Rattle.std.specs.Prelude.{◌≡◌, ◌≤◌, length};
+ghost use Rattle.std.specs.Prelude.{◌≡◌};
 
-/// A text, and the place in it that is read next.
+/// A text, and the place in it that is read next. A place past the text's end is its end.
 #[derive(Clone, Copy)]
 pub struct Cursor<'a> {
     pub text: &'a [u8],
     pub at: usize,
-    ghost inside: { at ≤ length text.now },
 }
 
 /// A line of a list.

@@ -6,9 +6,11 @@ mod byte_strings;
 mod class;
 mod cursor;
 mod numbers;
+#[cfg(test)]
+mod tests;
 mod unread;
 mod words;
 
-pub use byte_strings::fill;
+pub use byte_strings::{fill, ramp};
 pub use cursor::{Cursor, Line};
 pub use unread::Unread;

@@ -1,10 +1,11 @@
 //! Decimal numbers.
-ghost use Rattle.std.specs.Prelude.{◌≡◌, ◌^◌, ◌≤◌, ◌<◌, cond, length, Some, None, IfSome, Ok, Err, OnErr};
+ghost use Rattle.std.specs.Prelude.{◌≡◌, ◌≢◌, ℕ, pos, ◌^◌, ◌≤◌, ◌<◌, cond, length, Some, None, IfSome, Ok, Err, OnErr};
+ghost use Rattle.std.specs.Int.{from_bool};
 ghost use Rattle.std.specs.Result.{MatchResult};
 ghost use Rattle.lists.specs.declared.unread.Unread.TheVariants.{Malformed};
 ghost use Rattle.lists.specs.Places.{MovesTo};
 ghost use Rattle.lists.specs.Text.{word_at, word_end};
-ghost use Rattle.lists.specs.Numbers.{digit_of, decimal, is_natural, is_number, number_of, number_at, IsNumberAt};
+ghost use Rattle.lists.specs.Numbers.{digit_of, decimal, is_natural, is_number, number_of, number_at, IsNumberAt, IsKindAt};
 
 use crate::class::Class;
 use crate::cursor::Cursor;
@@ -28,6 +29,30 @@ impl Cursor<'_> {
         ensures moved { MovesTo self.old self.new (word_end self.old.text.now self.old.at) }
     {
         T::try_from(self.integer()?).map_err(|_| Unread::Malformed)
+    }
+
+    /// Reads 0 or 1.
+    pub fn flag(&mut self) -> Result<bool, Unread>
+        ensures flag { MatchResult result (λ b. number_at self.old.text.now self.old.at ≡ Ok (pos (from_bool b))) (λ e. e ≡ Malformed) }
+        ensures refused { OnErr result (number_at self.old.text.now self.old.at ≢ Ok (pos 0) × number_at self.old.text.now self.old.at ≢ Ok (pos 1)) }
+        ensures moved { MovesTo self.old self.new (word_end self.old.text.now self.old.at) }
+    {
+        match self.integer()? {
+            0 => Ok(false),
+            1 => Ok(true),
+            _ => Err(Unread::Malformed),
+        }
+    }
+
+    /// Reads the number of a kind; one that has no meaning is malformed.
+    pub fn kind<K: TryFrom<u32>>(&mut self) -> Result<K, Unread>
+    where
+        K::Error: Drop,
+        ensures kind { MatchResult result (λ k. IsKindAt K.try_from_gives self.old.text.now self.old.at (Ok k)) (λ e. e ≡ Malformed) }
+        ensures refused { OnErr result ((n : ℕ) → n < 2 ^ 32 → number_at self.old.text.now self.old.at ≡ Ok (pos n) → (why : K.Error) × K.try_from_gives n (Err why)) }
+        ensures moved { MovesTo self.old self.new (word_end self.old.text.now self.old.at) }
+    {
+        K::try_from(self.number()?).map_err(|_| Unread::Malformed)
     }
 }
 

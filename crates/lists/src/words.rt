@@ -1,9 +1,9 @@
 //! Lines and words.
-ghost use Rattle.std.specs.Prelude.{◌≡◌, ◌<◌, OnSome, cond, take, drop, Ok, Err};
+ghost use Rattle.std.specs.Prelude.{◌≡◌, ◌≤◌, ◌<◌, OnSome, cond, length, take, drop, Ok, Err};
 ghost use Rattle.std.specs.List.{prefix_len};
 ghost use Rattle.lists.specs.declared.unread.Unread.TheVariants.{Malformed};
 ghost use Rattle.lists.specs.Places.{MovesTo};
-ghost use Rattle.lists.specs.Text.{in_class, run_end, word_end, word_at, line_ends, line_end, NextAt};
+ghost use Rattle.lists.specs.Text.{in_class, run_end, place, word_end, word_at, line_ends, line_end, NextAt};
 
 use crate::class::Class;
 use crate::cursor::{Cursor, Line};
@@ -12,12 +12,14 @@ use crate::unread::Unread;
 impl<'a> Cursor<'a> {
     /// Takes the run of a class that begins here.
     fn run(&mut self, class: Class) -> &'a [u8]
-        ensures run { result.now ≡ take (prefix_len (in_class class) (drop self.old.at self.old.text.now)) (drop self.old.at self.old.text.now) }
-        ensures moved { MovesTo self.old self.new (run_end class self.old.text.now self.old.at) }
+        ensures run { let rest = drop self.old.at self.old.text.now in result.now ≡ take (prefix_len (in_class class) rest) rest }
+        ensures moved { MovesTo self.old self.new (run_end class self.old.text.now (place self.old.text.now self.old.at)) }
+        ensures inside { self.new.at ≤ length self.old.text.now }
     {
-        let rest = &self.text[self.at..];
+        let start = self.at.min(self.text.len());
+        let rest = &self.text[start..];
         let count = class.run(rest);
-        self.at += count;
+        self.at = start + count;
         &rest[..count]
     }
 

@@ -1,40 +1,22 @@
 //! Replays the averaging list, which has the Rust's answers, on `combine_predictions`. The list's head says what its fields mean.
 #![tactic(auto)]
 
-use combine_predictions::{AveragingRefusal, PredictionDirection};
+use combine_predictions::PredictionDirection;
 use lists::{Cursor, Unread};
 use std::alloc::Global;
 use std::io;
-
-/// No list has a longer byte string.
-const MOST: usize = 1024;
-
-/// The number of an answer, 0 for acceptance.
-fn number_of(answer: Result<(), AveragingRefusal>) -> i64 {
-    match answer {
-        Ok(()) => 0,
-        Err(refusal) => i64::from(u32::from(refusal)),
-    }
-}
+use tally::{LONGEST, Lent, number_of};
 
 /// `1 FORWARD BACKWARD FILL LENGTH ANSWER AFTER`, from FORWARD on: whether number and output are as listed, and what is behind the
 /// output as it was.
 fn averaging(alloc: Global, case: &mut Cursor<'_>) -> Result<bool, Unread> {
-    let forward = case.bytes(alloc, MOST)?;
-    let backward = case.bytes(alloc, MOST)?;
-    let first = case.number::<u8>()?;
-    let length = case.number::<usize>()?;
+    let forward = case.bytes(alloc, LONGEST)?;
+    let backward = case.bytes(alloc, LONGEST)?;
+    let mut out = Lent::filled(alloc, case)?;
     let answer = case.integer()?;
-    let after = case.bytes(alloc, MOST)?;
-    if length > MOST {
-        return Err(Unread::Malformed);
-    }
-    let mut room = [0u8; 1040];
-    lists::fill(&mut room, first);
-    let kept = room;
-    let (out, behind) = room.split_at_mut(length);
-    let averaged = combine_predictions::average_predictions(&forward, &backward, out);
-    Ok(number_of(averaged) == answer && &*out == after.as_slice() && &*behind == &kept[length..])
+    let after = case.bytes(alloc, LONGEST)?;
+    let given = combine_predictions::average_predictions(&forward, &backward, out.lent());
+    Ok(number_of(given) == answer && out.holds(&after))
 }
 
 /// The direction with this number in the order of the Rust's enum. It has no other one that this call takes.
@@ -50,9 +32,9 @@ fn direction(number: i64) -> Result<PredictionDirection, Unread> {
 /// `2 DIRECTION FORWARD BACKWARD RESULT`, from DIRECTION on.
 fn choosing(alloc: Global, case: &mut Cursor<'_>) -> Result<bool, Unread> {
     let direction = direction(case.integer()?)?;
-    let forward = case.bytes(alloc, MOST)?;
-    let backward = case.bytes(alloc, MOST)?;
-    let listed = case.bytes(alloc, MOST)?;
+    let forward = case.bytes(alloc, LONGEST)?;
+    let backward = case.bytes(alloc, LONGEST)?;
+    let listed = case.bytes(alloc, LONGEST)?;
     let chosen = combine_predictions::combine_directional_predictions(
         direction, &forward, &backward,
     );

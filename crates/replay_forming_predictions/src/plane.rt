@@ -8,12 +8,12 @@ const MOST: usize = 32768;
 
 /// The sides of a plane and its samples, of which there need not be as many as the sides say.
 #[derive(Drop)]
-pub struct Plane {
-    pub sides: ReferencePlane,
-    pub samples: Vec<u8>,
+pub(crate) struct Plane {
+    pub(crate) sides: ReferencePlane,
+    pub(crate) samples: Vec<u8>,
 }
 
-pub fn empty(alloc: Global) -> Plane {
+pub(crate) fn empty(alloc: Global) -> Plane {
     Plane {
         sides: ReferencePlane {
             width: 0,
@@ -31,7 +31,7 @@ fn sides(case: &mut Cursor<'_>) -> Result<ReferencePlane, Unread> {
 }
 
 /// `5 WIDTH HEIGHT BYTES`, from WIDTH on.
-pub fn of_bytes(alloc: Global, case: &mut Cursor<'_>) -> Result<Plane, Unread> {
+pub(crate) fn of_bytes(alloc: Global, case: &mut Cursor<'_>) -> Result<Plane, Unread> {
     Ok(Plane {
         sides: sides(case)?,
         samples: case.bytes(alloc, MOST)?,
@@ -39,14 +39,15 @@ pub fn of_bytes(alloc: Global, case: &mut Cursor<'_>) -> Result<Plane, Unread> {
 }
 
 /// `6 WIDTH HEIGHT LENGTH FIRST`, from WIDTH on.
-pub fn of_ramp(alloc: Global, case: &mut Cursor<'_>) -> Result<Plane, Unread> {
+pub(crate) fn of_ramp(alloc: Global, case: &mut Cursor<'_>) -> Result<Plane, Unread> {
     let sides = sides(case)?;
     let length = case.number::<usize>()?;
     let first = case.number::<u8>()?;
     if length > MOST {
         return Err(Unread::Malformed);
     }
-    let mut samples = vec![in alloc; 0u8; length]?;
-    lists::fill(&mut samples, first);
-    Ok(Plane { sides, samples })
+    Ok(Plane {
+        sides,
+        samples: lists::ramp(alloc, first, length)?,
+    })
 }

@@ -2,21 +2,13 @@
 use forming_predictions::{FieldParity, FieldReference, HalfPattern, ReferencePlane};
 use lists::{Cursor, Unread};
 
-fn flag(case: &mut Cursor<'_>) -> Result<bool, Unread> {
-    match case.integer()? {
-        0 => Ok(false),
-        1 => Ok(true),
-        _ => Err(Unread::Malformed),
-    }
-}
-
 /// The number of a pattern. Its enum has the order of the original's.
 fn number_of(pattern: HalfPattern) -> i64 {
     i64::from(pattern as u8)
 }
 
 /// `1 VECTOR INT_VEC HALF_FLAG`, from VECTOR on.
-pub fn component(case: &mut Cursor<'_>) -> Result<bool, Unread> {
+pub(crate) fn component(case: &mut Cursor<'_>) -> Result<bool, Unread> {
     let split = forming_predictions::split_component(case.number()?);
     let int_vec = case.number::<i32>()?;
     let half_flag = case.integer()?;
@@ -24,7 +16,7 @@ pub fn component(case: &mut Cursor<'_>) -> Result<bool, Unread> {
 }
 
 /// `2 HORIZONTAL VERTICAL INT_X HALF_X INT_Y HALF_Y PATTERN`, from HORIZONTAL on.
-pub fn vector(case: &mut Cursor<'_>) -> Result<bool, Unread> {
+pub(crate) fn vector(case: &mut Cursor<'_>) -> Result<bool, Unread> {
     let split = forming_predictions::split_vector(case.number()?, case.number()?);
     let across = (case.number::<i32>()?, case.integer()?);
     let down = (case.number::<i32>()?, case.integer()?);
@@ -41,9 +33,9 @@ pub fn vector(case: &mut Cursor<'_>) -> Result<bool, Unread> {
 }
 
 /// `3 HALF_X HALF_Y PATTERN IS_HALF_PEL`, from HALF_X on.
-pub fn pattern(case: &mut Cursor<'_>) -> Result<bool, Unread> {
-    let half_x = flag(case)?;
-    let half_y = flag(case)?;
+pub(crate) fn pattern(case: &mut Cursor<'_>) -> Result<bool, Unread> {
+    let half_x = case.flag()?;
+    let half_y = case.flag()?;
     let number = case.integer()?;
     let is_half_pel = case.integer()?;
     let pattern = HalfPattern::from_flags(half_x, half_y);
@@ -56,7 +48,7 @@ pub fn pattern(case: &mut Cursor<'_>) -> Result<bool, Unread> {
 }
 
 /// `4 HEIGHT TOP BOTTOM`, from HEIGHT on.
-pub fn field_heights(case: &mut Cursor<'_>) -> Result<bool, Unread> {
+pub(crate) fn field_heights(case: &mut Cursor<'_>) -> Result<bool, Unread> {
     let plane = ReferencePlane {
         width: 0,
         height: case.number()?,

@@ -1,7 +1,6 @@
 //! Replays the list of the four C entry points on `entry_points`. The list's head says what its fields mean.
 #![tactic(auto)]
 
-mod lent;
 mod prediction;
 mod vectors;
 

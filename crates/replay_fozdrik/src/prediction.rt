@@ -1,14 +1,11 @@
 //! The lines of the entry points that predict. What is absent may have any numbers beside it, which are passed as they stand.
-use crate::lent::Lent;
 use drawn::References;
 use entry_points::prediction::{
     fozdrik_predict_field_macroblock, fozdrik_predict_frame_macroblock,
 };
 use lists::{Cursor, Unread};
 use std::alloc::Global;
-
-/// No list has a longer output.
-const MOST: usize = 1024;
+use tally::{LONGEST, Lent};
 
 /// What a frame declares.
 #[derive(Clone, Copy)]
@@ -142,16 +139,16 @@ fn compared<C: FnOnce(&mut [u8]) -> u32>(
 ) -> Result<bool, Unread>
     requires { C.IsAlwaysCallable call }
 {
-    let mut out = Lent::filled(alloc, case, MOST)?;
+    let mut out = Lent::filled(alloc, case)?;
     let answer = case.number::<u32>()?;
-    let after = case.bytes(alloc, MOST)?;
+    let after = case.bytes(alloc, LONGEST)?;
     let given = call(out.lent());
     Ok(given == answer && out.is_as_listed(&after))
 }
 
 /// `4 WIDTH HEIGHT CHROMA MB_COL MB_ROW`, `PRESENT WIDTH HEIGHT CHROMA` of each reference, `PRESENT HORIZONTAL VERTICAL` of each direction,
 /// `FILL LENGTH ANSWER AFTER`, from WIDTH on. This call and the next one are two, with the numbers one by one, since C's are.
-pub fn frame(
+pub(crate) fn frame(
     alloc: Global,
     references: &References,
     case: &mut Cursor<'_>,
@@ -206,7 +203,7 @@ pub fn frame(
 }
 
 /// The same with 5 and `PRESENT FIELD HORIZONTAL VERTICAL FIELD HORIZONTAL VERTICAL` of each direction.
-pub fn field(
+pub(crate) fn field(
     alloc: Global,
     references: &References,
     case: &mut Cursor<'_>,

@@ -1,11 +1,8 @@
 //! The lines of the entry points for vectors and predictors.
-use crate::lent::Lent;
 use entry_points::vectors::{fozdrik_reconstruct_motion_vector, fozdrik_update_predictors};
 use lists::{Cursor, Unread};
 use std::alloc::Global;
-
-/// No list has a longer buffer of these.
-const MOST: usize = 64;
+use tally::{LONGEST, Lent};
 
 /// A part of a vector as the stream has it.
 #[derive(Clone, Copy)]
@@ -34,11 +31,11 @@ fn compared<C: FnOnce(&mut [u8], &mut [u8]) -> u32>(
 ) -> Result<bool, Unread>
     requires { C.IsAlwaysCallable call }
 {
-    let mut taken = Lent::filled(alloc, case, MOST)?;
+    let mut taken = Lent::filled(alloc, case)?;
     let answer = case.number::<u32>()?;
-    let mut predictors = Lent::holding(alloc, case, MOST)?;
-    let predictors_after = case.bytes(alloc, MOST)?;
-    let taken_after = case.bytes(alloc, MOST)?;
+    let mut predictors = Lent::holding(alloc, case)?;
+    let predictors_after = case.bytes(alloc, LONGEST)?;
+    let taken_after = case.bytes(alloc, LONGEST)?;
     let given = call(predictors.lent(), taken.lent());
     Ok(
         given == answer
@@ -48,7 +45,7 @@ fn compared<C: FnOnce(&mut [u8], &mut [u8]) -> u32>(
 }
 
 /// `2 R S`, `CODE PRESENT RESIDUAL` of each part, `F_CODE F_CODE FORMAT STRUCTURE FILL LENGTH ANSWER BEFORE AFTER VECTOR`, from R on.
-pub fn vector(alloc: Global, case: &mut Cursor<'_>) -> Result<bool, Unread> {
+pub(crate) fn vector(alloc: Global, case: &mut Cursor<'_>) -> Result<bool, Unread> {
     let r = case.number()?;
     let s = case.number()?;
     let horizontal = Coded::read(case)?;
@@ -78,7 +75,7 @@ pub fn vector(alloc: Global, case: &mut Cursor<'_>) -> Result<bool, Unread> {
 }
 
 /// `3 STRUCTURE PRESENT TYPE FORWARD BACKWARD INTRA CONCEALMENT FILL LENGTH ANSWER BEFORE AFTER OUTCOME`, from STRUCTURE on.
-pub fn update(alloc: Global, case: &mut Cursor<'_>) -> Result<bool, Unread> {
+pub(crate) fn update(alloc: Global, case: &mut Cursor<'_>) -> Result<bool, Unread> {
     let picture_structure = case.number()?;
     let prediction_type_present = case.number()?;
     let prediction_type = case.number()?;

@@ -1,29 +1,16 @@
 //! Placing a macroblock in planes that are drawn.
 use drawn::{Draws, Extent};
-use inter_reconstruction::frames::{FrameBuffer, FrameGeometry};
-use inter_reconstruction::placing::{PlacingRefusal, place_macroblock};
+use inter_reconstruction::frames::FrameBuffer;
+use inter_reconstruction::placing::place_macroblock;
 use lists::{Cursor, Unread};
-use pmv::kinds::ChromaFormat;
 use std::alloc::Global;
+use tally::{LONGEST, number_of};
 
 /// How many bytes behind those of a plane are drawn and compared.
 const BEHIND: usize = 64;
 
-/// No plane of a list has more samples, and no line more bytes to place.
+/// No plane of a list has more samples.
 const MOST_SAMPLES: usize = 262400;
-
-const MOST_BYTES: usize = 1024;
-
-/// `WIDTH HEIGHT CHROMA`.
-fn geometry(case: &mut Cursor<'_>) -> Result<FrameGeometry, Unread> {
-    Ok(FrameGeometry {
-        width: case.number()?,
-        height: case.number()?,
-        chroma_format: ChromaFormat::try_from(case.number::<u32>()?).map_err(
-            |_| Unread::Malformed,
-        )?,
-    })
-}
 
 /// The number that tells bytes in their order. The modulus is a prime and the factor one of its primitive roots, so that one other byte
 /// gives another number, and so do two that are exchanged.
@@ -33,18 +20,10 @@ fn told(bytes: &[u8]) -> u64 {
     })
 }
 
-/// The number of an answer: 0 is acceptance's.
-fn number_of(given: Result<(), PlacingRefusal>) -> u64 {
-    match given {
-        Ok(()) => 0,
-        Err(refusal) => u64::from(u32::from(refusal)),
-    }
-}
-
 /// `1 WIDTH HEIGHT CHROMA`, `WIDTH HEIGHT LENGTH` of each plane, `MB_COL MB_ROW BYTES SEED ANSWER Y_AFTER CB_AFTER CR_AFTER`, from the first
 /// WIDTH on: whether the number and all bytes of the planes are as listed, and what is behind the planes as it was.
-pub fn macroblock(alloc: Global, case: &mut Cursor<'_>) -> Result<bool, Unread> {
-    let geometry = geometry(case)?;
+pub(crate) fn macroblock(alloc: Global, case: &mut Cursor<'_>) -> Result<bool, Unread> {
+    let geometry = drawn::geometry(case)?;
     let y = Extent::read(case, MOST_SAMPLES)?;
     let cb = Extent::read(case, MOST_SAMPLES)?;
     let cr = Extent::read(case, MOST_SAMPLES)?;
@@ -52,13 +31,13 @@ pub fn macroblock(alloc: Global, case: &mut Cursor<'_>) -> Result<bool, Unread> 
     let mb_row = case.number()?;
     let count = case.number::<usize>()?;
     let mut draws = Draws::from_seed(case.number()?);
-    let answer = case.number::<u64>()?;
+    let answer = case.integer()?;
     let after = [
         case.number::<u64>()?,
         case.number::<u64>()?,
         case.number::<u64>()?,
     ];
-    if count > MOST_BYTES {
+    if count > LONGEST {
         return Err(Unread::Malformed);
     }
     let bytes = draws.bytes(alloc, count)?;

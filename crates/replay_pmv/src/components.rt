@@ -1,9 +1,10 @@
 //! Calls that touch no predictors.
 use crate::fields;
-use crate::fields::{NO_COMPONENT, number_and_value};
+use crate::fields::NO_COMPONENT;
 use lists::{Cursor, Unread};
 use pmv::component::VectorRange;
 use pmv::kinds::{ChromaFormat, MvFormat, PictureStructure};
+use tally::number_and_value;
 
 /// Zeros, as a list has them where a range is refused.
 const NO_RANGE: VectorRange = VectorRange {
@@ -13,7 +14,7 @@ const NO_RANGE: VectorRange = VectorRange {
 };
 
 /// `1 CODE PRESENT RESIDUAL F_CODE ANSWER DELTA`, from CODE on.
-pub fn delta(case: &mut Cursor<'_>) -> Result<bool, Unread> {
+pub(crate) fn delta(case: &mut Cursor<'_>) -> Result<bool, Unread> {
     let motion_code = case.number()?;
     let residual = fields::residual(case)?;
     let f_code = case.number()?;
@@ -23,7 +24,7 @@ pub fn delta(case: &mut Cursor<'_>) -> Result<bool, Unread> {
 }
 
 /// `2 F_CODE ANSWER LOW HIGH RANGE`, from F_CODE on.
-pub fn range(case: &mut Cursor<'_>) -> Result<bool, Unread> {
+pub(crate) fn range(case: &mut Cursor<'_>) -> Result<bool, Unread> {
     let f_code = case.number()?;
     let answer = fields::number(case)?;
     let range = VectorRange {
@@ -36,7 +37,7 @@ pub fn range(case: &mut Cursor<'_>) -> Result<bool, Unread> {
 }
 
 /// `3 CODE PRESENT RESIDUAL F_CODE PRIOR FORMAT STRUCTURE T ANSWER VECTOR NEW_PMV DELTA RANGE`, from CODE on.
-pub fn reconstructing(case: &mut Cursor<'_>) -> Result<bool, Unread> {
+pub(crate) fn reconstructing(case: &mut Cursor<'_>) -> Result<bool, Unread> {
     let motion_code = case.number()?;
     let residual = fields::residual(case)?;
     let f_code = case.number()?;
@@ -64,7 +65,7 @@ pub fn reconstructing(case: &mut Cursor<'_>) -> Result<bool, Unread> {
 }
 
 /// `6 LUMA_H LUMA_V CHROMA CHROMA_H CHROMA_V`, from LUMA_H on.
-pub fn scaling(case: &mut Cursor<'_>) -> Result<bool, Unread> {
+pub(crate) fn scaling(case: &mut Cursor<'_>) -> Result<bool, Unread> {
     let luma = (case.number()?, case.number()?);
     let number = case.number()?;
     let format = fields::kind::<ChromaFormat>(number)?;

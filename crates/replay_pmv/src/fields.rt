@@ -1,11 +1,11 @@
-//! The fields of a line, and what an answer is compared by.
+//! The fields of a line.
 use lists::{Cursor, Unread};
 use pmv::component::ReconstructedComponent;
 use pmv::kinds::{Component, PictureCodingType, PredictionType};
 use pmv::predictors::Pmv;
 
 /// Zeros, as a list has them where a component is refused.
-pub const NO_COMPONENT: ReconstructedComponent = ReconstructedComponent {
+pub(crate) const NO_COMPONENT: ReconstructedComponent = ReconstructedComponent {
     vector_prime: 0,
     new_pmv: 0,
     delta: 0,
@@ -13,20 +13,15 @@ pub const NO_COMPONENT: ReconstructedComponent = ReconstructedComponent {
 };
 
 /// The kind that a number of the list means.
-pub fn kind<K: TryFrom<u32>>(number: u32) -> Result<K, Unread>
+pub(crate) fn kind<K: TryFrom<u32>>(number: u32) -> Result<K, Unread>
 where
     K::Error: Drop,
 {
     K::try_from(number).map_err(|_| Unread::Malformed)
 }
 
-/// 0 or 1.
-pub fn flag(case: &mut Cursor<'_>) -> Result<bool, Unread> {
-    pmv::kinds::flag_from_number(case.number()?).map_err(|_| Unread::Malformed)
-}
-
 /// `T`, of which `pmv` reads no number.
-pub fn component(case: &mut Cursor<'_>) -> Result<Component, Unread> {
+pub(crate) fn component(case: &mut Cursor<'_>) -> Result<Component, Unread> {
     match case.integer()? {
         0 => Ok(Component::Horizontal),
         1 => Ok(Component::Vertical),
@@ -35,7 +30,7 @@ pub fn component(case: &mut Cursor<'_>) -> Result<Component, Unread> {
 }
 
 /// `CODING_TYPE`, of which `pmv` reads no number, but which has one.
-pub fn coding_type(case: &mut Cursor<'_>) -> Result<PictureCodingType, Unread> {
+pub(crate) fn coding_type(case: &mut Cursor<'_>) -> Result<PictureCodingType, Unread> {
     let number = case.number::<u32>()?;
     let coding_type = match number {
         0 => PictureCodingType::Intra,
@@ -59,16 +54,16 @@ fn nothing<T>(case: &mut Cursor<'_>) -> Result<Option<T>, Unread> {
 }
 
 /// `PRESENT RESIDUAL`.
-pub fn residual(case: &mut Cursor<'_>) -> Result<Option<u8>, Unread> {
-    if flag(case)? {
+pub(crate) fn residual(case: &mut Cursor<'_>) -> Result<Option<u8>, Unread> {
+    if case.flag()? {
         return Ok(Some(case.number()?));
     }
     nothing(case)
 }
 
 /// `PRESENT TYPE`.
-pub fn prediction_type(case: &mut Cursor<'_>) -> Result<Option<PredictionType>, Unread> {
-    if flag(case)? {
+pub(crate) fn prediction_type(case: &mut Cursor<'_>) -> Result<Option<PredictionType>, Unread> {
+    if case.flag()? {
         let number = case.number()?;
         let prediction_type = kind::<PredictionType>(number)?;
         if u32::from(prediction_type) != number {
@@ -80,7 +75,7 @@ pub fn prediction_type(case: &mut Cursor<'_>) -> Result<Option<PredictionType>, 
 }
 
 /// `P0..P7`, or `Q0..Q7`.
-pub fn predictors(case: &mut Cursor<'_>) -> Result<Pmv, Unread> {
+pub(crate) fn predictors(case: &mut Cursor<'_>) -> Result<Pmv, Unread> {
     let mut pmv = Pmv::new();
     for value in pmv.values.iter_mut() {
         *value = case.number()?;
@@ -89,7 +84,7 @@ pub fn predictors(case: &mut Cursor<'_>) -> Result<Pmv, Unread> {
 }
 
 /// `VECTOR NEW_PMV DELTA RANGE`.
-pub fn reconstructed(case: &mut Cursor<'_>) -> Result<ReconstructedComponent, Unread> {
+pub(crate) fn reconstructed(case: &mut Cursor<'_>) -> Result<ReconstructedComponent, Unread> {
     Ok(ReconstructedComponent {
         vector_prime: case.number()?,
         new_pmv: case.number()?,
@@ -99,17 +94,6 @@ pub fn reconstructed(case: &mut Cursor<'_>) -> Result<ReconstructedComponent, Un
 }
 
 /// `ANSWER` or the like: any i32.
-pub fn number(case: &mut Cursor<'_>) -> Result<i64, Unread> {
+pub(crate) fn number(case: &mut Cursor<'_>) -> Result<i64, Unread> {
     Ok(i64::from(case.number::<i32>()?))
-}
-
-/// An answer as a list has it: 0 or the refusal's number, and what is given, or `zeros` where it is refused.
-pub fn number_and_value<T: Copy, R: Copy>(given: Result<T, R>, zeros: T) -> (i64, T)
-where
-    u32: From<R>,
-{
-    match given {
-        Ok(value) => (0, value),
-        Err(refusal) => (i64::from(u32::from(refusal)), zeros),
-    }
 }

@@ -7,7 +7,7 @@ use pmv::predictors::Pmv;
 
 /// `R S T VALUE`.
 #[derive(Clone, Copy)]
-pub struct Setting {
+pub(crate) struct Setting {
     r: VectorIndex,
     s: Direction,
     t: Component,
@@ -19,8 +19,8 @@ impl Call for Setting {
 
     fn read(case: &mut Cursor<'_>) -> Result<Self, Unread> {
         Ok(Setting {
-            r: fields::kind(case.number()?)?,
-            s: fields::kind(case.number()?)?,
+            r: case.kind()?,
+            s: case.kind()?,
             t: fields::component(case)?,
             value: case.number()?,
         })
@@ -45,7 +45,7 @@ impl Call for Setting {
 
 /// A reset, of which nothing is asked but the record after it.
 #[derive(Clone, Copy)]
-pub struct Clearing;
+pub(crate) struct Clearing;
 
 impl Call for Clearing {
     type Answer = ();
@@ -68,6 +68,6 @@ impl Call for Clearing {
 }
 
 /// `11 Q0..Q7`, from Q0 on.
-pub fn making(case: &mut Cursor<'_>) -> Result<bool, Unread> {
+pub(crate) fn making(case: &mut Cursor<'_>) -> Result<bool, Unread> {
     Ok(fields::predictors(case)? == Pmv::new())
 }

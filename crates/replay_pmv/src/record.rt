@@ -4,7 +4,7 @@ use lists::{Cursor, Unread};
 use pmv::predictors::Pmv;
 
 /// What a line asks of a record: a call by value, and its twin to which the record is lent.
-pub trait Call: Copy {
+pub(crate) trait Call: Copy {
     /// What the call answers, beside the record after it.
     type Answer: Copy + PartialEq;
 
@@ -38,14 +38,14 @@ fn read<C: Call>(case: &mut Cursor<'_>) -> Result<Case<C, C::Answer>, Unread> {
 }
 
 /// A line that brings its own record, which goes by value.
-pub fn by_value<C: Call>(case: &mut Cursor<'_>) -> Result<bool, Unread> {
+pub(crate) fn by_value<C: Call>(case: &mut Cursor<'_>) -> Result<bool, Unread> {
     let listed = read::<C>(case)?;
     let (answer, after) = listed.call.by_value(listed.before);
     Ok(answer == listed.answer && after == listed.after)
 }
 
 /// A line whose call is lent the record that the lines before it left, and that this one has to find.
-pub fn lent<C: Call>(pmv: &mut Pmv, case: &mut Cursor<'_>) -> Result<bool, Unread> {
+pub(crate) fn lent<C: Call>(pmv: &mut Pmv, case: &mut Cursor<'_>) -> Result<bool, Unread> {
     let listed = read::<C>(case)?;
     let before = *pmv;
     let answer = listed.call.lent(pmv);

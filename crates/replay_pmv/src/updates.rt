@@ -1,11 +1,11 @@
 //! Updates and resets of a record.
 use crate::fields;
-use crate::fields::number_and_value;
 use crate::record::Call;
 use lists::{Cursor, Unread};
 use pmv::kinds::PictureCodingType;
 use pmv::predictors::Pmv;
 use pmv::update::{PmvUpdateContext, PmvUpdateOutcome, UpdateRefusal};
+use tally::number_and_value;
 
 /// The number of an answer, 0 for acceptance, and its outcome's, 0 where it is refused.
 fn numbers_of(answer: Result<PmvUpdateOutcome, UpdateRefusal>) -> (i64, i64) {
@@ -19,12 +19,12 @@ impl Call for PmvUpdateContext {
 
     fn read(case: &mut Cursor<'_>) -> Result<Self, Unread> {
         Ok(PmvUpdateContext {
-            picture_structure: fields::kind(case.number()?)?,
+            picture_structure: case.kind()?,
             prediction_type: fields::prediction_type(case)?,
-            macroblock_motion_forward: fields::flag(case)?,
-            macroblock_motion_backward: fields::flag(case)?,
-            macroblock_intra: fields::flag(case)?,
-            concealment_motion_vectors: fields::flag(case)?,
+            macroblock_motion_forward: case.flag()?,
+            macroblock_motion_backward: case.flag()?,
+            macroblock_intra: case.flag()?,
+            concealment_motion_vectors: case.flag()?,
         })
     }
 
@@ -45,7 +45,7 @@ impl Call for PmvUpdateContext {
 
 /// `CODING_TYPE CLASS`.
 #[derive(Clone, Copy)]
-pub struct ResettingByClass {
+pub(crate) struct ResettingByClass {
     coding_type: PictureCodingType,
     weight_class: u8,
 }

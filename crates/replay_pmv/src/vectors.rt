@@ -1,12 +1,13 @@
 //! Vectors, decoded against a record.
 use crate::fields;
-use crate::fields::{NO_COMPONENT, number_and_value};
+use crate::fields::NO_COMPONENT;
 use crate::record::Call;
 use lists::{Cursor, Unread};
 use pmv::component::ReconstructedComponent;
 use pmv::kinds::{Component, Direction, MvFormat, PictureStructure, VectorIndex};
 use pmv::predictors::Pmv;
 use pmv::vector::{MotionVector, VectorComponents};
+use tally::number_and_value;
 
 /// Zeros, as a list has them where a vector is refused.
 const NO_COMPONENTS: VectorComponents = VectorComponents {
@@ -16,7 +17,7 @@ const NO_COMPONENTS: VectorComponents = VectorComponents {
 
 /// `R S T CODE PRESENT RESIDUAL F_CODE`.
 #[derive(Clone, Copy)]
-pub struct Decoding {
+pub(crate) struct Decoding {
     r: VectorIndex,
     s: Direction,
     t: Component,
@@ -30,8 +31,8 @@ impl Call for Decoding {
 
     fn read(case: &mut Cursor<'_>) -> Result<Self, Unread> {
         Ok(Decoding {
-            r: fields::kind(case.number()?)?,
-            s: fields::kind(case.number()?)?,
+            r: case.kind()?,
+            s: case.kind()?,
             t: fields::component(case)?,
             motion_code: case.number()?,
             motion_residual: fields::residual(case)?,
@@ -73,7 +74,7 @@ impl Call for Decoding {
 
 /// `R S CODE_H PRESENT_H RESIDUAL_H CODE_V PRESENT_V RESIDUAL_V F_CODE_H F_CODE_V FORMAT STRUCTURE`.
 #[derive(Clone, Copy)]
-pub struct Reconstructing {
+pub(crate) struct Reconstructing {
     r: VectorIndex,
     s: Direction,
     mv: MotionVector,
@@ -88,8 +89,8 @@ impl Call for Reconstructing {
 
     fn read(case: &mut Cursor<'_>) -> Result<Self, Unread> {
         Ok(Reconstructing {
-            r: fields::kind(case.number()?)?,
-            s: fields::kind(case.number()?)?,
+            r: case.kind()?,
+            s: case.kind()?,
             mv: MotionVector {
                 motion_code_horiz: case.number()?,
                 motion_residual_horiz: fields::residual(case)?,
@@ -98,8 +99,8 @@ impl Call for Reconstructing {
             },
             f_code_horiz: case.number()?,
             f_code_vert: case.number()?,
-            mv_format: fields::kind(case.number()?)?,
-            picture: fields::kind(case.number()?)?,
+            mv_format: case.kind()?,
+            picture: case.kind()?,
         })
     }
 

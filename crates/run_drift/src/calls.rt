@@ -66,7 +66,7 @@ fn predict<V: DirectionVectors>(
 }
 
 /// What prediction refuses is not placed.
-pub fn take(pictures: &mut [Picture<u8>], step: Step) -> Result<(), Refusal> {
+pub(crate) fn take(pictures: &mut [Picture<u8>], step: Step) -> Result<(), Refusal> {
     let (below, target) = pictures::at(pictures, step.target).ok_or(Refusal::Other)?;
     let mut out = [0u8; 384];
     if step.field_based {

@@ -68,9 +68,9 @@ impl fmt::Display for Against {
 
 /// The row of a picture: its largest distances above and below, and the figure.
 #[derive(Clone, Copy)]
-pub struct Row<'a> {
-    pub rounded: &'a Picture<u8>,
-    pub exact: &'a Picture<u64>,
+pub(crate) struct Row<'a> {
+    pub(crate) rounded: &'a Picture<u8>,
+    pub(crate) exact: &'a Picture<u64>,
 }
 
 impl fmt::Display for Row<'_> {

@@ -170,7 +170,7 @@ impl Prediction<'_> {
 }
 
 /// What the table refuses changes nothing.
-pub fn take(pictures: &mut [Picture<u64>], step: Step) {
+pub(crate) fn take(pictures: &mut [Picture<u64>], step: Step) {
     if step.by_table().is_err() {
         return;
     }

@@ -8,13 +8,12 @@
 mod calls;
 mod distances;
 mod exact;
-mod generator;
 mod outcomes;
 mod pictures;
 mod steps;
 
 use distances::Row;
-use generator::Generator;
+use drawn::Draws;
 use outcomes::Counts;
 use pictures::{Component, Pictures};
 use std::alloc::Global;
@@ -123,7 +122,7 @@ fn run_unchanged(rt: &impl Print, alloc: Global) -> io::Result<()> {
 fn run_drawn(rt: &impl Print, alloc: Global) -> io::Result<()> {
     println!(rt; "\nlist 3, drawn: drawn steps on drawn pictures, in any order, some refused")?;
     let mut pictures = Pictures::new(alloc, pictures::drawn(alloc)?)?;
-    let mut numbers = Generator { state: 4 };
+    let mut numbers = Draws::from_seed(4);
     run(rt, &mut pictures, DRAWN, |_| steps::drawn(&mut numbers))
 }
 

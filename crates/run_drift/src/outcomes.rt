@@ -6,7 +6,7 @@ use std::fmt;
 
 /// What a step is refused for, prediction and placing taken together.
 #[derive(Clone, Copy, PartialEq, Eq)]
-pub enum Refusal {
+pub(crate) enum Refusal {
     /// 13.
     CellTooFar,
     /// 16.
@@ -53,17 +53,17 @@ impl Direction {
 
 impl Step {
     /// Without motion in either direction the forward reference is used.
-    pub fn uses_forward(self) -> bool {
+    pub(crate) fn uses_forward(self) -> bool {
         (self.forward.motion.is_some() || self.backward.motion.is_none())
             && !self.forward.left_out(self.backward)
     }
 
-    pub fn uses_backward(self) -> bool {
+    pub(crate) fn uses_backward(self) -> bool {
         self.backward.motion.is_some() && !self.backward.left_out(self.forward)
     }
 
     /// What the table of docs/SCOPE.md says of a step: prediction, then placing.
-    pub fn by_table(self) -> Result<(), Refusal> {
+    pub(crate) fn by_table(self) -> Result<(), Refusal> {
         if self.column > 1023 || self.row > 1023 {
             return Err(Refusal::CellTooFar);
         }
@@ -82,18 +82,18 @@ impl Step {
 
 /// Steps by what came of them.
 #[derive(Clone, Copy)]
-pub struct Counts {
-    pub accepted: u64,
-    pub far: u64,
-    pub no_forward: u64,
-    pub no_backward: u64,
-    pub outside: u64,
-    pub others: u64,
-    pub disagree: u64,
+pub(crate) struct Counts {
+    pub(crate) accepted: u64,
+    pub(crate) far: u64,
+    pub(crate) no_forward: u64,
+    pub(crate) no_backward: u64,
+    pub(crate) outside: u64,
+    pub(crate) others: u64,
+    pub(crate) disagree: u64,
 }
 
 impl Counts {
-    pub fn new() -> Counts {
+    pub(crate) fn new() -> Counts {
         Counts {
             accepted: 0,
             far: 0,
@@ -106,7 +106,7 @@ impl Counts {
     }
 
     /// Counts a step by what the calls answered. Where the table says otherwise, they disagree.
-    pub fn count(&mut self, answered: Result<(), Refusal>, table: Result<(), Refusal>) {
+    pub(crate) fn count(&mut self, answered: Result<(), Refusal>, table: Result<(), Refusal>) {
         let counted = match answered {
             Ok(()) => &mut self.accepted,
             Err(Refusal::CellTooFar) => &mut self.far,

@@ -1,7 +1,7 @@
 //! Nineteen pictures of 48 columns and 48 rows, 4:2:0. Unrounded samples are whole numbers, 8 to the power n of them to a grey step in picture n.
 ghost use Rattle.std.specs.Prelude.{◌<◌, ◌≤◌};
 
-use crate::generator::Generator;
+use drawn::Draws;
 use std::alloc::{AllocError, Global};
 use std::io;
 
@@ -10,17 +10,17 @@ const PICTURES: u32 = 19;
 
 /// What a sample is of.
 #[derive(Clone, Copy)]
-pub enum Component {
+pub(crate) enum Component {
     Y,
     Cb,
     Cr,
 }
 
 impl Component {
-    pub const ALL: [Component; 3] = [Component::Y, Component::Cb, Component::Cr];
+    pub(crate) const ALL: [Component; 3] = [Component::Y, Component::Cb, Component::Cr];
 
     /// The columns and rows of a macroblock's part in a plane.
-    pub fn block(self) -> u8
+    pub(crate) fn block(self) -> u8
         ensures { (0 < result) × (result ≤ 16) }
     {
         match self {
@@ -30,7 +30,7 @@ impl Component {
     }
 
     /// The columns and rows of a plane: three macroblocks.
-    pub fn side(self) -> u8
+    pub(crate) fn side(self) -> u8
         ensures { (0 < result) × (result ≤ 48) }
     {
         self.block() * 3
@@ -39,35 +39,35 @@ impl Component {
 
 /// A picture by its samples, row after row.
 #[derive(Drop)]
-pub struct Picture<S> {
-    pub number: u32,
-    pub y: Vec<S>,
-    pub cb: Vec<S>,
-    pub cr: Vec<S>,
+pub(crate) struct Picture<S> {
+    pub(crate) number: u32,
+    pub(crate) y: Vec<S>,
+    pub(crate) cb: Vec<S>,
+    pub(crate) cr: Vec<S>,
 }
 
 /// The pictures of a list twice: as the calls leave them, and with every mean exact. They stand apart, so that what fills the unrounded
 /// ones sees no answer of the calls.
 #[derive(Drop)]
-pub struct Pictures {
-    pub rounded: Vec<Picture<u8>>,
-    pub exact: Vec<Picture<u64>>,
+pub(crate) struct Pictures {
+    pub(crate) rounded: Vec<Picture<u8>>,
+    pub(crate) exact: Vec<Picture<u64>>,
 }
 
 /// 8 to the power n.
-pub fn unit(n: u32) -> u64
+pub(crate) fn unit(n: u32) -> u64
     ensures { 0 < result }
 {
     1 << (3 * (n % 20))
 }
 
 /// v times 8 to the power n. No sample of pictures 0 to 18 reaches 2 to the power 62.
-pub fn scaled(v: u64, n: u32) -> u64 {
+pub(crate) fn scaled(v: u64, n: u32) -> u64 {
     v.wrapping_mul(unit(n))
 }
 
 impl<S> Picture<S> {
-    pub fn plane(&self, component: Component) -> &[S] {
+    pub(crate) fn plane(&self, component: Component) -> &[S] {
         match component {
             Component::Y => &self.y,
             Component::Cb => &self.cb,
@@ -75,7 +75,7 @@ impl<S> Picture<S> {
         }
     }
 
-    pub fn plane_mut(&mut self, component: Component) -> &mut [S] {
+    pub(crate) fn plane_mut(&mut self, component: Component) -> &mut [S] {
         match component {
             Component::Y => &mut self.y,
             Component::Cb => &mut self.cb,
@@ -85,7 +85,10 @@ impl<S> Picture<S> {
 }
 
 /// Picture n, and those below it. No list has a step at a picture that there is not.
-pub fn at<S>(pictures: &mut [Picture<S>], n: usize) -> Option<(&[Picture<S>], &mut Picture<S>)> {
+pub(crate) fn at<S>(
+    pictures: &mut [Picture<S>],
+    n: usize,
+) -> Option<(&[Picture<S>], &mut Picture<S>)> {
     let (below, rest) = pictures.split_at_mut_checked(n)?;
     Some((below, rest.first_mut()?))
 }
@@ -93,21 +96,17 @@ pub fn at<S>(pictures: &mut [Picture<S>], n: usize) -> Option<(&[Picture<S>], &m
 fn drawn_plane(
     alloc: Global,
     component: Component,
-    samples: &mut Generator,
+    samples: &mut Draws,
 ) -> Result<Vec<u8>, AllocError> {
     let side = usize::from(component.side());
-    let mut plane = vec![in alloc; 0u8; side * side]?;
-    for sample in plane.iter_mut() {
-        *sample = samples.sample();
-    }
-    Ok(plane)
+    samples.bytes(alloc, side * side)
 }
 
 /// All pictures as they are drawn: each component by a generator of its own.
-pub fn drawn(alloc: Global) -> io::Result<Vec<Picture<u8>>> {
-    let mut y = Generator { state: 1 };
-    let mut cb = Generator { state: 2 };
-    let mut cr = Generator { state: 3 };
+pub(crate) fn drawn(alloc: Global) -> io::Result<Vec<Picture<u8>>> {
+    let mut y = Draws::from_seed(1);
+    let mut cb = Draws::from_seed(2);
+    let mut cr = Draws::from_seed(3);
     let mut pictures = Vec::new(alloc);
     for number in 0..PICTURES {
         pictures.push(Picture {
@@ -130,7 +129,7 @@ fn unrounded_plane(alloc: Global, n: u32, bytes: &[u8]) -> Result<Vec<u64>, Allo
 
 impl Pictures {
     /// Both start as the same pictures.
-    pub fn new(alloc: Global, rounded: Vec<Picture<u8>>) -> io::Result<Pictures> {
+    pub(crate) fn new(alloc: Global, rounded: Vec<Picture<u8>>) -> io::Result<Pictures> {
         let mut exact = Vec::new(alloc);
         for picture in rounded.iter() {
             let number = picture.number;
@@ -146,7 +145,7 @@ impl Pictures {
 }
 
 /// Gives picture 0 another luminance, by column and row.
-pub fn set_first_luminance<F: Fn(u8, u8) -> u8>(pictures: &mut [Picture<u8>], luminance: F)
+pub(crate) fn set_first_luminance<F: Fn(u8, u8) -> u8>(pictures: &mut [Picture<u8>], luminance: F)
     requires { F.IsAlwaysCallable luminance }
 {
     let Some(first) = pictures.first_mut() else {

@@ -1,33 +1,33 @@
 //! Steps, and the three lists of them.
 ghost use Rattle.std.specs.Prelude.{◌<◌};
 
-use crate::generator::Generator;
 use crate::pictures::Picture;
+use drawn::Draws;
 use forming_predictions::FieldParity;
 use inter_reconstruction::motion::{FieldVector, FieldVectorPair, MotionVectorPel};
 
 /// A direction of a step: the number of its reference, where that is there, and its vectors, where it has motion: one for each of the
 /// macroblock's fields. A frame-based step goes by the first vector, and reads the frame.
 #[derive(Clone, Copy)]
-pub struct Direction {
-    pub reference: Option<usize>,
-    pub motion: Option<FieldVectorPair>,
+pub(crate) struct Direction {
+    pub(crate) reference: Option<usize>,
+    pub(crate) motion: Option<FieldVectorPair>,
 }
 
 /// The macroblock at this column and row of picture `target` is predicted and placed.
 #[derive(Clone, Copy)]
-pub struct Step {
-    pub target: usize,
-    pub field_based: bool,
-    pub column: u16,
-    pub row: u16,
-    pub forward: Direction,
-    pub backward: Direction,
+pub(crate) struct Step {
+    pub(crate) target: usize,
+    pub(crate) field_based: bool,
+    pub(crate) column: u16,
+    pub(crate) row: u16,
+    pub(crate) forward: Direction,
+    pub(crate) backward: Direction,
 }
 
 impl Direction {
     /// The reference, where it is there. No list has a step with a reference from its target on, so that it is among the pictures below.
-    pub fn picture<S>(self, below: &[Picture<S>]) -> Option<&Picture<S>> {
+    pub(crate) fn picture<S>(self, below: &[Picture<S>]) -> Option<&Picture<S>> {
         below.get(self.reference?)
     }
 }
@@ -71,19 +71,19 @@ fn at_cell(k: usize, forward: Direction, backward: Direction) -> Step {
 }
 
 /// Step k of the brighter list: from the picture before.
-pub fn brighter(k: usize) -> Step {
+pub(crate) fn brighter(k: usize) -> Step {
     at_cell(k, from_picture(k / 9, 0, 1), from_picture(k / 9, 0, -1))
 }
 
 /// Step k of the unchanged list: from the picture before.
-pub fn unchanged(k: usize) -> Step {
+pub(crate) fn unchanged(k: usize) -> Step {
     at_cell(k, from_picture(k / 9, 1, 1), ABSENT)
 }
 
 // ---- drawn steps
 
 /// A component of a vector: one of -40 to 40, or, one time in eight, any.
-fn drawn_component(numbers: &mut Generator) -> i32 {
+fn drawn_component(numbers: &mut Draws) -> i32 {
     let v = numbers.number();
     if v % 8 == 0 {
         return ((v / 8 % 4294967296) as i64 - 2147483648) as i32;
@@ -91,7 +91,7 @@ fn drawn_component(numbers: &mut Generator) -> i32 {
     (v / 8 % 81) as i32 - 40
 }
 
-fn drawn_parity(numbers: &mut Generator) -> FieldParity {
+fn drawn_parity(numbers: &mut Draws) -> FieldParity {
     if numbers.number() % 2 == 0 {
         FieldParity::Top
     } else {
@@ -99,7 +99,7 @@ fn drawn_parity(numbers: &mut Generator) -> FieldParity {
     }
 }
 
-fn drawn_vector(numbers: &mut Generator) -> FieldVector {
+fn drawn_vector(numbers: &mut Draws) -> FieldVector {
     FieldVector {
         vector: MotionVectorPel {
             horizontal: drawn_component(numbers),
@@ -110,7 +110,7 @@ fn drawn_vector(numbers: &mut Generator) -> FieldVector {
 }
 
 /// A column or a row: inside, or, one time in sixteen, one that may lie outside or even be over 1,023.
-fn drawn_cell(numbers: &mut Generator) -> u16 {
+fn drawn_cell(numbers: &mut Draws) -> u16 {
     let v = numbers.number();
     if v % 16 == 0 {
         return (v / 16 % 1200) as u16;
@@ -119,7 +119,7 @@ fn drawn_cell(numbers: &mut Generator) -> u16 {
 }
 
 /// Any lower picture, but half the time the one before, so that long chains occur.
-fn drawn_below(target: usize, numbers: &mut Generator) -> usize
+fn drawn_below(target: usize, numbers: &mut Draws) -> usize
     requires { 0 < target }
 {
     let v = numbers.number();
@@ -130,7 +130,7 @@ fn drawn_below(target: usize, numbers: &mut Generator) -> usize
 }
 
 /// A reference is absent one time in eight, and motion one time in four. What is absent is drawn too.
-fn drawn_direction(target: usize, numbers: &mut Generator) -> Direction
+fn drawn_direction(target: usize, numbers: &mut Draws) -> Direction
     requires { 0 < target }
 {
     let there = numbers.number() % 8 != 0;
@@ -147,7 +147,7 @@ fn drawn_direction(target: usize, numbers: &mut Generator) -> Direction
 }
 
 /// The next step of the drawn list.
-pub fn drawn(numbers: &mut Generator) -> Step {
+pub(crate) fn drawn(numbers: &mut Draws) -> Step {
     let target = (numbers.number() % 18 + 1) as usize;
     Step {
         target,

@@ -1,3 +1,4 @@
--- How a replay counts.
+-- How a replay counts, and what it compares.
 pub mod Counts
 pub mod Walk
+pub mod Lent

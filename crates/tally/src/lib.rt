@@ -6,10 +6,19 @@ ghost use Rattle.std.specs.Fn.{CalledAtMut};
 ghost use Rattle.tally.specs.Counts.{none, after_comment, after_case, at_end};
 ghost use Rattle.tally.specs.Walk.{Verdict, Walks};
 
+mod answers;
+mod lent;
+
+pub use answers::{number_and_value, number_of};
+pub use lent::Lent;
+
 use lists::{Cursor, Line, Unread};
 use std::alloc::AllocError;
 use std::io;
 use std::io::Read;
+
+/// No byte string of a list is longer, but those of the planes of forming, and no buffer that is lent.
+pub const LONGEST: usize = 1024;
 
 /// The lines so far (comments and cases: a list has no empty line), the cases, those that agree, and whether the list is well formed
 /// so far. That is no `Result`, since the counts are reported either way.

@@ -4,6 +4,7 @@
 mod cases;
 
 use std::iter;
+use std::mem;
 
 use oracle::forming_predictions::{BlockSize, HalfPattern};
 use oracle::rng::Rng;
@@ -116,6 +117,7 @@ The last group is wrong on purpose."
     refused_positions(&mut maker);
     refused_outputs(&mut maker);
     drawn(&mut maker);
+    nine_rows(&mut maker, seed);
     if edition.is_kept() {
         wrong_on_purpose(&mut maker);
     }
@@ -859,9 +861,29 @@ fn drawn(maker: &mut Maker) {
     }
 }
 
+/// Blocks of 8 x 9, of which there is no other one inside with at most one half.
+fn nine_rows(maker: &mut Maker, seed: u64) {
+    maker.list.group(
+        "s. blocks of 8 x 9 inside the frame or the field, each pattern (this tells a port that takes
+them for 8 x 8); drawn from the complement of the seed, so that the last group is as without it",
+    );
+    let kept = mem::replace(&mut maker.rng, Rng::new(!seed));
+    let size = size(8, 9);
+    maker.draw_plane(19, 24);
+    for reference in REFERENCES {
+        for pattern in PATTERNS {
+            let last = maker.last_inside(reference, size, pattern);
+            for target in [at(0, 0), at(last.x / 2, last.y / 2), last] {
+                maker.predict_block_from(reference, target, size, pattern);
+            }
+        }
+    }
+    maker.rng = kept;
+}
+
 fn wrong_on_purpose(maker: &mut Maker) {
     maker.list.group(
-        "s. wrong on purpose, so that the expected output shows that the comparison can fail; only the
+        "t. wrong on purpose, so that the expected output shows that the comparison can fail; only the
 lines that set planes are right: -3 truncated; a pattern for the other; a half taken for none;
 the other field's height; the other field's sample; a mean of means; 18 where 14 is right; the
 last byte of a block off by one; a byte of a refused block's output off by one",
