@@ -5,7 +5,7 @@ ghost use Rattle.combine_predictions.specs.Refusals.{refusal_number};
 ghost use Rattle.pmv.specs.Predictors.{pair_of};
 ghost use Rattle.pmv.specs.Refusals.{vector_number, update_number};
 ghost use Rattle.pmv.specs.Update.{update_refusal, update_outcome, outcome_number, updated};
-ghost use Rattle.entry_points.specs.Layout.{word_of, signed_of, bytes_of, number_at, pair_bytes, predictors_of, predictor_bytes, with_pair};
+ghost use Rattle.entry_points.specs.Layout.{bytes_of, number_at, pair_bytes, predictors_of, predictor_bytes, with_pair};
 ghost use Rattle.entry_points.specs.Entries.{call_number, unless_number, residual_of, type_of, vector_known, update_known, index_of, direction_of, format_of, structure_of, motion_vector_of, context_of, vector_from, vector_bytes};
 ghost use Rattle.entry_points.specs.inner.Outcomes.{outcome_byte};
 
@@ -20,56 +20,22 @@ use pmv::vector::{MotionVector, VectorComponents, reconstructed_pair};
 
 // ---- the buffers: 32-bit numbers in two's complement, each as four bytes, the lowest first
 
-/// The number of a word. The compiler makes nothing of the test and of the sum.
-fn signed(x: u32) -> i32
-    ensures { result ≡ signed_of x }
-{
-    if x < 2147483648 {
-        return x as i32;
-    }
-    let wide = x as i64;
-    (wide - 4294967296) as i32
-}
-
-/// The word of a number.
-fn unsigned(v: i32) -> u32
-    ensures { result ≡ word_of v }
-{
-    if v < 0 {
-        let wide = v as i64;
-        return (wide + 4294967296) as u32;
-    }
-    v as u32
-}
-
-fn wide(x: u8) -> u32
-    ensures { (result ≡ x) × (result < 256) }
-{
-    x as u32
-}
-
 /// The number whose first byte is at `at`.
+#[tactic(auto, unfolding(crate::specs::Layout::number_at))]
 fn load(bytes: &[u8], at: usize) -> i32
     requires { at + 4 ≤ length bytes.now }
     ensures { result ≡ number_at bytes.now at }
 {
-    let a = wide(bytes[at]);
-    let b = wide(bytes[at + 1]);
-    let c = wide(bytes[at + 2]);
-    let d = wide(bytes[at + 3]);
-    signed(a + b * 256 + c * 65536 + d * 16777216)
+    i32::from_le_bytes([bytes[at], bytes[at + 1], bytes[at + 2], bytes[at + 3]])
 }
 
 /// A number into four bytes.
+#[tactic(auto, unfolding(crate::specs::Layout::bytes_of))]
 fn store(v: i32, out: &mut [u8])
     requires { length out.old ≡ 4 }
     ensures { out.new ≡ bytes_of v }
 {
-    let n = unsigned(v);
-    out[0] = (n % 256) as u8;
-    out[1] = (n / 256 % 256) as u8;
-    out[2] = (n / 65536 % 256) as u8;
-    out[3] = (n / 16777216 % 256) as u8;
+    out.copy_from_slice(&v.to_le_bytes());
 }
 
 /// PMV\[r\]\[s\]\[1:0\] in the 32 bytes of the predictors.
