@@ -9,9 +9,11 @@ ghost use Rattle.entry_points.specs.Entries.{call_number, unless_number, field_k
 
 use crate::prediction::NO_MEANING;
 use crate::prediction::reading::{
-    ReferenceNumbers, predict_read, read_field_vectors, read_geometry, read_prediction,
+    FieldPairNumbers, FieldVectorNumbers, GeometryNumbers, ReferenceNumbers, predict_read,
+    read_prediction,
 };
 use forming_predictions::ReferencePlane;
+use inter_reconstruction::motion::MotionVectorPel;
 
 /// The prediction of a field-based macroblock: 0, or the number of the refusal.
 pub fn fozdrik_predict_field_macroblock(
@@ -87,12 +89,18 @@ pub fn fozdrik_predict_field_macroblock(
         out.new ≡ unless_number result prediction out.old }
 {
     let Ok(read) = read_prediction(
-        read_geometry(width, height, chroma_format),
+        GeometryNumbers {
+            width,
+            height,
+            format: chroma_format,
+        },
         ReferenceNumbers {
             present: forward_present,
-            width: forward_width,
-            height: forward_height,
-            format: forward_format,
+            geometry: GeometryNumbers {
+                width: forward_width,
+                height: forward_height,
+                format: forward_format,
+            },
             y: ReferencePlane {
                 width: forward_y_width,
                 height: forward_y_height,
@@ -105,13 +113,14 @@ pub fn fozdrik_predict_field_macroblock(
                 width: forward_cr_width,
                 height: forward_cr_height,
             },
-        }
-        .read(),
+        },
         ReferenceNumbers {
             present: backward_present,
-            width: backward_width,
-            height: backward_height,
-            format: backward_format,
+            geometry: GeometryNumbers {
+                width: backward_width,
+                height: backward_height,
+                format: backward_format,
+            },
             y: ReferencePlane {
                 width: backward_y_width,
                 height: backward_y_height,
@@ -124,26 +133,41 @@ pub fn fozdrik_predict_field_macroblock(
                 width: backward_cr_width,
                 height: backward_cr_height,
             },
-        }
-        .read(),
-        read_field_vectors(
-            forward_motion,
-            forward_top_field,
-            forward_top_horizontal,
-            forward_top_vertical,
-            forward_bottom_field,
-            forward_bottom_horizontal,
-            forward_bottom_vertical,
-        ),
-        read_field_vectors(
-            backward_motion,
-            backward_top_field,
-            backward_top_horizontal,
-            backward_top_vertical,
-            backward_bottom_field,
-            backward_bottom_horizontal,
-            backward_bottom_vertical,
-        ),
+        },
+        FieldPairNumbers {
+            present: forward_motion,
+            top: FieldVectorNumbers {
+                field: forward_top_field,
+                vector: MotionVectorPel {
+                    horizontal: forward_top_horizontal,
+                    vertical: forward_top_vertical,
+                },
+            },
+            bottom: FieldVectorNumbers {
+                field: forward_bottom_field,
+                vector: MotionVectorPel {
+                    horizontal: forward_bottom_horizontal,
+                    vertical: forward_bottom_vertical,
+                },
+            },
+        },
+        FieldPairNumbers {
+            present: backward_motion,
+            top: FieldVectorNumbers {
+                field: backward_top_field,
+                vector: MotionVectorPel {
+                    horizontal: backward_top_horizontal,
+                    vertical: backward_top_vertical,
+                },
+            },
+            bottom: FieldVectorNumbers {
+                field: backward_bottom_field,
+                vector: MotionVectorPel {
+                    horizontal: backward_bottom_horizontal,
+                    vertical: backward_bottom_vertical,
+                },
+            },
+        },
     ) else {
         return NO_MEANING;
     };

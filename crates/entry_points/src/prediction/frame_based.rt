@@ -9,9 +9,10 @@ ghost use Rattle.entry_points.specs.Entries.{call_number, unless_number, frame_k
 
 use crate::prediction::NO_MEANING;
 use crate::prediction::reading::{
-    ReferenceNumbers, predict_read, read_frame_vector, read_geometry, read_prediction,
+    FrameVectorNumbers, GeometryNumbers, ReferenceNumbers, predict_read, read_prediction,
 };
 use forming_predictions::ReferencePlane;
+use inter_reconstruction::motion::MotionVectorPel;
 
 /// The prediction of a frame-based macroblock: 0, or the number of the refusal.
 pub fn fozdrik_predict_frame_macroblock(
@@ -75,12 +76,18 @@ pub fn fozdrik_predict_frame_macroblock(
         out.new ≡ unless_number result prediction out.old }
 {
     let Ok(read) = read_prediction(
-        read_geometry(width, height, chroma_format),
+        GeometryNumbers {
+            width,
+            height,
+            format: chroma_format,
+        },
         ReferenceNumbers {
             present: forward_present,
-            width: forward_width,
-            height: forward_height,
-            format: forward_format,
+            geometry: GeometryNumbers {
+                width: forward_width,
+                height: forward_height,
+                format: forward_format,
+            },
             y: ReferencePlane {
                 width: forward_y_width,
                 height: forward_y_height,
@@ -93,13 +100,14 @@ pub fn fozdrik_predict_frame_macroblock(
                 width: forward_cr_width,
                 height: forward_cr_height,
             },
-        }
-        .read(),
+        },
         ReferenceNumbers {
             present: backward_present,
-            width: backward_width,
-            height: backward_height,
-            format: backward_format,
+            geometry: GeometryNumbers {
+                width: backward_width,
+                height: backward_height,
+                format: backward_format,
+            },
             y: ReferencePlane {
                 width: backward_y_width,
                 height: backward_y_height,
@@ -112,10 +120,21 @@ pub fn fozdrik_predict_frame_macroblock(
                 width: backward_cr_width,
                 height: backward_cr_height,
             },
-        }
-        .read(),
-        read_frame_vector(forward_motion, forward_horizontal, forward_vertical),
-        read_frame_vector(backward_motion, backward_horizontal, backward_vertical),
+        },
+        FrameVectorNumbers {
+            present: forward_motion,
+            vector: MotionVectorPel {
+                horizontal: forward_horizontal,
+                vertical: forward_vertical,
+            },
+        },
+        FrameVectorNumbers {
+            present: backward_motion,
+            vector: MotionVectorPel {
+                horizontal: backward_horizontal,
+                vertical: backward_vertical,
+            },
+        },
     ) else {
         return NO_MEANING;
     };

@@ -1,5 +1,5 @@
 //! What the numbers of a C call mean, where those that are read have a meaning, and the layer's call on it.
-ghost use Rattle.std.specs.Prelude.{◌≡◌, length, is_some};
+ghost use Rattle.std.specs.Prelude.{◌≡◌, ◌&&◌, Bool, Option, length, is_some};
 ghost use Rattle.combine_predictions.specs.Refusals.{refusal_number};
 ghost use Rattle.forming_predictions.specs.Means.{rounded};
 ghost use Rattle.pmv.specs.Kinds.{flag_from, chroma_from, parity_from};
@@ -7,8 +7,8 @@ ghost use Rattle.inter_reconstruction.specs.Motion.{uses_by};
 ghost use Rattle.inter_reconstruction.specs.Frames.{samples_of, lengths_of, read_reference};
 ghost use Rattle.inter_reconstruction.specs.Macroblock.{predicted};
 ghost use Rattle.inter_reconstruction.specs.Refusals.{prediction_number, prediction_refusal};
-ghost use Rattle.entry_points.specs.Entries.{unless_number, reference_known, fields_known, geometry_of, reference_of, frame_direction_of, field_vector_of, field_direction_of};
-ghost use Rattle.entry_points.specs.inner.Reading.{read_where, all_read};
+ghost use Rattle.entry_points.specs.Entries.{unless_number, reference_known, fields_known, geometry_of, frame_direction_of, field_vector_of, field_direction_of};
+ghost use Rattle.entry_points.specs.inner.Reading.{read_where, reference_meant, prediction_meant};
 
 use forming_predictions::ReferencePlane;
 use inter_reconstruction::frames::{FrameBuffer, FrameGeometry};
@@ -18,13 +18,33 @@ use inter_reconstruction::motion::{
 };
 use pmv::kinds::{ChromaFormat, NoMeaning, flag_from_number, parity_from_number};
 
+/// What a C call gives for a frame's geometry.
+#[derive(Clone, Copy)]
+pub(crate) struct GeometryNumbers {
+    pub(crate) width: usize,
+    pub(crate) height: usize,
+    pub(crate) format: u32,
+}
+
+impl GeometryNumbers {
+    #[tactic(auto, unfolding(crate::specs::Entries::geometry_of))]
+    fn read(self) -> Result<FrameGeometry, NoMeaning>
+        ensures { result ≡ read_where (is_some (chroma_from self.format)) (geometry_of self.width self.height self.format) }
+    {
+        let chroma_format = ChromaFormat::try_from(self.format)?;
+        Ok(FrameGeometry {
+            width: self.width,
+            height: self.height,
+            chroma_format,
+        })
+    }
+}
+
 /// What a C call gives for one reference, beside its samples.
 #[derive(Clone, Copy)]
 pub(crate) struct ReferenceNumbers {
     pub(crate) present: u32,
-    pub(crate) width: usize,
-    pub(crate) height: usize,
-    pub(crate) format: u32,
+    pub(crate) geometry: GeometryNumbers,
     pub(crate) y: ReferencePlane,
     pub(crate) cb: ReferencePlane,
     pub(crate) cr: ReferencePlane,
@@ -34,12 +54,12 @@ impl ReferenceNumbers {
     /// A reference that is absent is not read.
     #[tactic(auto, unfolding(crate::specs::Entries::reference_known, crate::specs::Entries::reference_of))]
     pub(crate) fn read(self) -> Result<Option<FrameBuffer>, NoMeaning>
-        ensures { result ≡ read_where (reference_known self.present self.format) (reference_of self.present self.width self.height self.format self.y.width self.y.height self.cb.width self.cb.height self.cr.width self.cr.height) }
+        ensures { result ≡ read_where (reference_known self.present self.geometry.format) (reference_meant self) }
     {
         let given = flag_from_number(self.present)?;
         Ok(if given {
             Some(FrameBuffer {
-                geometry: read_geometry(self.width, self.height, self.format)?,
+                geometry: self.geometry.read()?,
                 y: self.y,
                 cb: self.cb,
                 cr: self.cr,
@@ -50,78 +70,91 @@ impl ReferenceNumbers {
     }
 }
 
-#[tactic(auto, unfolding(crate::specs::Entries::geometry_of))]
-pub(crate) fn read_geometry(
-    width: usize,
-    height: usize,
-    chroma_format: u32,
-) -> Result<FrameGeometry, NoMeaning>
-    ensures { result ≡ read_where (is_some (chroma_from chroma_format)) (geometry_of width height chroma_format) }
-{
-    let kind = ChromaFormat::try_from(chroma_format)?;
-    Ok(FrameGeometry {
-        width: width,
-        height: height,
-        chroma_format: kind,
-    })
+/// What a C call gives for the vectors of one direction.
+pub(crate) trait VectorNumbers: Copy {
+    /// What they stand for.
+    type Vectors: DirectionVectors;
+
+    /// Whether those that are read have a meaning.
+    ghost known: { Self → Bool };
+
+    /// Which.
+    ghost meant: { Self → Option Self.Vectors };
+
+    fn read(self) -> Result<Option<Self::Vectors>, NoMeaning>
+        ensures { result ≡ read_where (known self) (meant self) };
+}
+
+/// For a frame-based macroblock.
+#[derive(Clone, Copy)]
+pub(crate) struct FrameVectorNumbers {
+    pub(crate) present: u32,
+    pub(crate) vector: MotionVectorPel,
 }
 
 /// A vector that is absent is not read.
-#[tactic(auto, unfolding(crate::specs::Entries::frame_direction_of))]
-pub(crate) fn read_frame_vector(
-    present: u32,
-    horizontal: i32,
-    vertical: i32,
-) -> Result<Option<MotionVectorPel>, NoMeaning>
-    ensures { result ≡ read_where (is_some (flag_from present)) (frame_direction_of present horizontal vertical) }
-{
-    let there = flag_from_number(present)?;
-    Ok(if there {
-        Some(MotionVectorPel {
-            horizontal: horizontal,
-            vertical: vertical,
-        })
-    } else {
-        None
-    })
+impl VectorNumbers for FrameVectorNumbers {
+    type Vectors = MotionVectorPel;
+
+    ghost known = { λ n. is_some (flag_from n.present) };
+
+    ghost meant = { λ n. frame_direction_of n.present n.vector.horizontal n.vector.vertical };
+
+    #[tactic(auto, unfolding(crate::specs::Entries::frame_direction_of))]
+    fn read(self) -> Result<Option<MotionVectorPel>, NoMeaning> {
+        let there = flag_from_number(self.present)?;
+        Ok(if there { Some(self.vector) } else { None })
+    }
 }
 
-#[tactic(auto, unfolding(crate::specs::Entries::field_vector_of))]
-fn read_field_vector(field: u32, horizontal: i32, vertical: i32) -> Result<FieldVector, NoMeaning>
-    ensures { result ≡ read_where (is_some (parity_from field)) (field_vector_of field horizontal vertical) }
-{
-    let reference_field = parity_from_number(field)?;
-    Ok(FieldVector {
-        vector: MotionVectorPel {
-            horizontal: horizontal,
-            vertical: vertical,
-        },
-        reference_field: reference_field,
-    })
+/// For one field of a field-based macroblock.
+#[derive(Clone, Copy)]
+pub(crate) struct FieldVectorNumbers {
+    pub(crate) field: u32,
+    pub(crate) vector: MotionVectorPel,
+}
+
+impl FieldVectorNumbers {
+    #[tactic(auto, unfolding(crate::specs::Entries::field_vector_of))]
+    fn read(self) -> Result<FieldVector, NoMeaning>
+        ensures { result ≡ read_where (is_some (parity_from self.field)) (field_vector_of self.field self.vector.horizontal self.vector.vertical) }
+    {
+        let reference_field = parity_from_number(self.field)?;
+        Ok(FieldVector {
+            vector: self.vector,
+            reference_field,
+        })
+    }
+}
+
+/// For a field-based macroblock.
+#[derive(Clone, Copy)]
+pub(crate) struct FieldPairNumbers {
+    pub(crate) present: u32,
+    pub(crate) top: FieldVectorNumbers,
+    pub(crate) bottom: FieldVectorNumbers,
 }
 
 /// Field vectors that are absent are not read.
-#[tactic(auto, unfolding(crate::specs::Entries::fields_known, crate::specs::Entries::field_direction_of))]
-pub(crate) fn read_field_vectors(
-    present: u32,
-    top_field: u32,
-    top_horizontal: i32,
-    top_vertical: i32,
-    bottom_field: u32,
-    bottom_horizontal: i32,
-    bottom_vertical: i32,
-) -> Result<Option<FieldVectorPair>, NoMeaning>
-    ensures { result ≡ read_where (fields_known present top_field bottom_field) (field_direction_of present top_field top_horizontal top_vertical bottom_field bottom_horizontal bottom_vertical) }
-{
-    let there = flag_from_number(present)?;
-    Ok(if there {
-        Some(FieldVectorPair {
-            top: read_field_vector(top_field, top_horizontal, top_vertical)?,
-            bottom: read_field_vector(bottom_field, bottom_horizontal, bottom_vertical)?,
+impl VectorNumbers for FieldPairNumbers {
+    type Vectors = FieldVectorPair;
+
+    ghost known = { λ n. fields_known n.present n.top.field n.bottom.field };
+
+    ghost meant = { λ n. field_direction_of n.present n.top.field n.top.vector.horizontal n.top.vector.vertical n.bottom.field n.bottom.vector.horizontal n.bottom.vector.vertical };
+
+    #[tactic(auto, unfolding(crate::specs::Entries::fields_known, crate::specs::Entries::field_direction_of))]
+    fn read(self) -> Result<Option<FieldVectorPair>, NoMeaning> {
+        let there = flag_from_number(self.present)?;
+        Ok(if there {
+            Some(FieldVectorPair {
+                top: self.top.read()?,
+                bottom: self.bottom.read()?,
+            })
+        } else {
+            None
         })
-    } else {
-        None
-    })
+    }
 }
 
 /// What a prediction is read with, beside the samples of the references and the cell.
@@ -133,23 +166,26 @@ pub(crate) struct PredictionRead<V> {
     pub(crate) motion: Motion<V>,
 }
 
-/// What was read part by part, where each part has a meaning.
-pub(crate) fn read_prediction<V: DirectionVectors>(
-    dest: Result<FrameGeometry, NoMeaning>,
-    forward: Result<Option<FrameBuffer>, NoMeaning>,
-    backward: Result<Option<FrameBuffer>, NoMeaning>,
-    forward_vectors: Result<Option<V>, NoMeaning>,
-    backward_vectors: Result<Option<V>, NoMeaning>,
-) -> Result<PredictionRead<V>, NoMeaning>
-    ensures { result ≡ all_read dest forward backward forward_vectors backward_vectors }
+/// What the numbers of a call mean, where all that are read have a meaning. They are tested one by one, as they are read: with all read first, a
+/// macroblock took 31 to 70 instructions more.
+pub(crate) fn read_prediction<N: VectorNumbers>(
+    dest: GeometryNumbers,
+    forward: ReferenceNumbers,
+    backward: ReferenceNumbers,
+    forward_vectors: N,
+    backward_vectors: N,
+) -> Result<PredictionRead<N::Vectors>, NoMeaning>
+    ensures { let known = is_some (chroma_from dest.format) && (reference_known forward.present forward.geometry.format && (reference_known backward.present backward.geometry.format && (N.known forward_vectors && N.known backward_vectors))) in
+        let geometry = geometry_of dest.width dest.height dest.format in
+        result ≡ read_where known (prediction_meant geometry (reference_meant forward) (reference_meant backward) (N.meant forward_vectors) (N.meant backward_vectors)) }
 {
     Ok(PredictionRead {
-        dest: dest?,
-        forward: forward?,
-        backward: backward?,
+        dest: dest.read()?,
+        forward: forward.read()?,
+        backward: backward.read()?,
         motion: Motion {
-            forward: forward_vectors?,
-            backward: backward_vectors?,
+            forward: forward_vectors.read()?,
+            backward: backward_vectors.read()?,
         },
     })
 }

@@ -2,21 +2,18 @@
 -- Assumes nothing.
 use mir.Facts.{to_z-of_z}
 use Rattle.entry_points.specs.Entries.{field_known}
-use Rattle.entry_points.proofs.Reading.{parts_read, was_read, not_read}
+use Rattle.entry_points.proofs.Reading.{was_read, not_read}
 use Rattle.entry_points.proofs.prediction.field_based.fozdrik_predict_field_macroblock.Goals as goal
 
 pub returns-in_default-clause-number : goal.returns-in_default-clause-number
 unfolding field_known
-returns-in_default-clause-number c =
-    rw (not_read _ _ (parts_read _ _ _ _ _ _ _ _ _ _ c.read_geometry.ensures c.read.ensures c.read-2.ensures c.read_field_vectors.ensures c.read_field_vectors-2.ensures c.in_default.ensures))
+returns-in_default-clause-number c = rw (not_read _ _ c.in_default.ensures)
 
 pub returns : goal.returns
 unfolding field_known
 returns c =
     let r = c.ranges in
-    let v = rw (to_z-of_z r.forward_top_horizontal, to_z-of_z r.forward_top_vertical, to_z-of_z r.forward_bottom_horizontal, to_z-of_z r.forward_bottom_vertical) at c.read_field_vectors.ensures in
-    let w = rw (to_z-of_z r.backward_top_horizontal, to_z-of_z r.backward_top_vertical, to_z-of_z r.backward_bottom_horizontal, to_z-of_z r.backward_bottom_vertical) at c.read_field_vectors-2.ensures in
-    let k = was_read _ _ (parts_read _ _ _ _ _ _ _ _ _ _ c.read_geometry.ensures c.read.ensures c.read-2.ensures v w c.in-Ok.ensures) in
+    let k = was_read _ _ (rw (to_z-of_z r.forward_top_horizontal, to_z-of_z r.forward_top_vertical, to_z-of_z r.forward_bottom_horizontal, to_z-of_z r.forward_bottom_vertical, to_z-of_z r.backward_top_horizontal, to_z-of_z r.backward_top_vertical, to_z-of_z r.backward_bottom_horizontal, to_z-of_z r.backward_bottom_vertical) at c.in-Ok.ensures) in
     record {
       number = rw k.0 (rw k.1 at c.predict_read.ensures.number);
       buffer = rw k.1 at c.predict_read.ensures.buffer;
