@@ -13,7 +13,6 @@ use crate::prediction::reading::{
     read_prediction,
 };
 use forming_predictions::ReferencePlane;
-use inter_reconstruction::motion::MotionVectorPel;
 
 /// The prediction of a field-based macroblock: 0, or the number of the refusal.
 pub fn fozdrik_predict_field_macroblock(
@@ -138,34 +137,26 @@ pub fn fozdrik_predict_field_macroblock(
             present: forward_motion,
             top: FieldVectorNumbers {
                 field: forward_top_field,
-                vector: MotionVectorPel {
-                    horizontal: forward_top_horizontal,
-                    vertical: forward_top_vertical,
-                },
+                horizontal: forward_top_horizontal,
+                vertical: forward_top_vertical,
             },
             bottom: FieldVectorNumbers {
                 field: forward_bottom_field,
-                vector: MotionVectorPel {
-                    horizontal: forward_bottom_horizontal,
-                    vertical: forward_bottom_vertical,
-                },
+                horizontal: forward_bottom_horizontal,
+                vertical: forward_bottom_vertical,
             },
         },
         FieldPairNumbers {
             present: backward_motion,
             top: FieldVectorNumbers {
                 field: backward_top_field,
-                vector: MotionVectorPel {
-                    horizontal: backward_top_horizontal,
-                    vertical: backward_top_vertical,
-                },
+                horizontal: backward_top_horizontal,
+                vertical: backward_top_vertical,
             },
             bottom: FieldVectorNumbers {
                 field: backward_bottom_field,
-                vector: MotionVectorPel {
-                    horizontal: backward_bottom_horizontal,
-                    vertical: backward_bottom_vertical,
-                },
+                horizontal: backward_bottom_horizontal,
+                vertical: backward_bottom_vertical,
             },
         },
     ) else {

@@ -12,7 +12,6 @@ use crate::prediction::reading::{
     FrameVectorNumbers, GeometryNumbers, ReferenceNumbers, predict_read, read_prediction,
 };
 use forming_predictions::ReferencePlane;
-use inter_reconstruction::motion::MotionVectorPel;
 
 /// The prediction of a frame-based macroblock: 0, or the number of the refusal.
 pub fn fozdrik_predict_frame_macroblock(
@@ -123,17 +122,13 @@ pub fn fozdrik_predict_frame_macroblock(
         },
         FrameVectorNumbers {
             present: forward_motion,
-            vector: MotionVectorPel {
-                horizontal: forward_horizontal,
-                vertical: forward_vertical,
-            },
+            horizontal: forward_horizontal,
+            vertical: forward_vertical,
         },
         FrameVectorNumbers {
             present: backward_motion,
-            vector: MotionVectorPel {
-                horizontal: backward_horizontal,
-                vertical: backward_vertical,
-            },
+            horizontal: backward_horizontal,
+            vertical: backward_vertical,
         },
     ) else {
         return NO_MEANING;

@@ -89,7 +89,8 @@ pub(crate) trait VectorNumbers: Copy {
 #[derive(Clone, Copy)]
 pub(crate) struct FrameVectorNumbers {
     pub(crate) present: u32,
-    pub(crate) vector: MotionVectorPel,
+    pub(crate) horizontal: i32,
+    pub(crate) vertical: i32,
 }
 
 /// A vector that is absent is not read.
@@ -98,12 +99,19 @@ impl VectorNumbers for FrameVectorNumbers {
 
     ghost known = { λ n. is_some (flag_from n.present) };
 
-    ghost meant = { λ n. frame_direction_of n.present n.vector.horizontal n.vector.vertical };
+    ghost meant = { λ n. frame_direction_of n.present n.horizontal n.vertical };
 
     #[tactic(auto, unfolding(crate::specs::Entries::frame_direction_of))]
     fn read(self) -> Result<Option<MotionVectorPel>, NoMeaning> {
         let there = flag_from_number(self.present)?;
-        Ok(if there { Some(self.vector) } else { None })
+        Ok(if there {
+            Some(MotionVectorPel {
+                horizontal: self.horizontal,
+                vertical: self.vertical,
+            })
+        } else {
+            None
+        })
     }
 }
 
@@ -111,17 +119,21 @@ impl VectorNumbers for FrameVectorNumbers {
 #[derive(Clone, Copy)]
 pub(crate) struct FieldVectorNumbers {
     pub(crate) field: u32,
-    pub(crate) vector: MotionVectorPel,
+    pub(crate) horizontal: i32,
+    pub(crate) vertical: i32,
 }
 
 impl FieldVectorNumbers {
     #[tactic(auto, unfolding(crate::specs::Entries::field_vector_of))]
     fn read(self) -> Result<FieldVector, NoMeaning>
-        ensures { result ≡ read_where (is_some (parity_from self.field)) (field_vector_of self.field self.vector.horizontal self.vector.vertical) }
+        ensures { result ≡ read_where (is_some (parity_from self.field)) (field_vector_of self.field self.horizontal self.vertical) }
     {
         let reference_field = parity_from_number(self.field)?;
         Ok(FieldVector {
-            vector: self.vector,
+            vector: MotionVectorPel {
+                horizontal: self.horizontal,
+                vertical: self.vertical,
+            },
             reference_field,
         })
     }
@@ -141,7 +153,7 @@ impl VectorNumbers for FieldPairNumbers {
 
     ghost known = { λ n. fields_known n.present n.top.field n.bottom.field };
 
-    ghost meant = { λ n. field_direction_of n.present n.top.field n.top.vector.horizontal n.top.vector.vertical n.bottom.field n.bottom.vector.horizontal n.bottom.vector.vertical };
+    ghost meant = { λ n. field_direction_of n.present n.top.field n.top.horizontal n.top.vertical n.bottom.field n.bottom.horizontal n.bottom.vertical };
 
     #[tactic(auto, unfolding(crate::specs::Entries::fields_known, crate::specs::Entries::field_direction_of))]
     fn read(self) -> Result<Option<FieldVectorPair>, NoMeaning> {
