@@ -8,6 +8,10 @@ use Rattle.pmv.specs.Kinds.{no_meaning}
 use Rattle.pmv.specs.declared.kinds.NoMeaning.{NoMeaning}
 use Rattle.entry_points.specs.inner.Reading.{read_where}
 
+pub known_ok : {A : Type 0} (o : Option A) → is_ok (ok_or o no_meaning) ≡ is_some o
+known_ok None = refl
+known_ok (Some x) = refl
+
 pub read_known : {A : Type 0} (o : Option A) {r : Result A NoMeaning} {b : Bool} → r ≡ ok_or o no_meaning → b ≡ is_ok r → b ≡ is_some o
 read_known None q p = rw q at p
 read_known (Some x) q p = rw q at p
