@@ -3,3 +3,4 @@ pub mod Words
 pub mod ReadBack
 pub mod Updates
 pub mod Reading
+pub mod References

@@ -2,11 +2,15 @@
 -- Assumes nothing.
 use mathlib.Core.Path.{◌≡◌, refl}
 use mathlib.Core.Bool.{Bool, true, false}
-use Rattle.std.specs.Prelude.{Option, Some, None, Result, Ok, is_some, is_ok, ok_or, unwrap_or}
+use Rattle.std.specs.Prelude.{Option, Some, None, Result, Ok, Err, is_some, is_ok, ok_or, unwrap_or}
 use Rattle.std.specs.Result.{result_unwrap_or}
-use Rattle.pmv.specs.Kinds.{no_meaning}
-use Rattle.pmv.specs.declared.kinds.NoMeaning.{NoMeaning}
+use Rattle.forming_predictions.specs.Parities.{no_meaning}
+use Rattle.forming_predictions.specs.declared.parity.NoMeaning.{NoMeaning}
 use Rattle.entry_points.specs.inner.Reading.{read_where}
+
+pub known_ok : {A : Type 0} (o : Option A) → is_ok (ok_or o no_meaning) ≡ is_some o
+known_ok None = refl
+known_ok (Some x) = refl
 
 pub read_known : {A : Type 0} (o : Option A) {r : Result A NoMeaning} {b : Bool} → r ≡ ok_or o no_meaning → b ≡ is_ok r → b ≡ is_some o
 read_known None q p = rw q at p
@@ -21,3 +25,8 @@ read_value (Some y) d p q = rw q at p
 pub was_read : {A : Type 0} (known : Bool) (meant : A) {read : A} → Ok read ≡ read_where known meant → (known ≡ true) × (read ≡ meant)
 was_read true meant e = (refl, cc)
 was_read false meant e = absurd cc
+
+-- where one was not, not all are known
+pub not_read : {A : Type 0} (known : Bool) (meant : A) {reason : NoMeaning} → Err reason ≡ read_where known meant → known ≡ false
+not_read true meant e = absurd cc
+not_read false meant e = refl

@@ -35,15 +35,6 @@ number_back z f = rw (← word_is z) (to_z-of_z f)
 
 -- ---- bytes
 
--- four stores into four bytes
-pub four_set : (l : List ℕ) (a b c d : ℕ) → length l ≡ 4 → set (set (set (set l 0 a) 1 b) 2 c) 3 d ≡ a ∷ b ∷ c ∷ d ∷ []
-four_set [] a b c d e = absurd (omega arith)
-four_set (x ∷ []) a b c d e = absurd (omega arith)
-four_set (x ∷ y ∷ []) a b c d e = absurd (omega arith)
-four_set (x ∷ y ∷ z ∷ []) a b c d e = absurd (omega arith)
-four_set (x ∷ y ∷ z ∷ w ∷ []) a b c d e = refl
-four_set (x ∷ y ∷ z ∷ w ∷ v ∷ l) a b c d e = absurd (omega arith)
-
 -- a word out of its bytes
 pub word_back : (n : ℕ) → n < 4294967296
     → n % 256 + n / 256 % 256 * 256 + n / 65536 % 256 * 65536 + n / 16777216 % 256 * 16777216 ≡ n
@@ -54,10 +45,6 @@ word_back n h =
     let t : n / 16777216 < 256 = omega arith in
     let q4 = mod-eq_of_lt t in
     omega arith
-
-pub bytes_length : (z : ℤ) → length (bytes_of z) ≡ 4
-unfolding bytes_of
-bytes_length z = refl
 
 -- ---- the two predictors of a vector
 pub pair_at : (l : List ℕ) (r : VectorIndex) (s : Direction) (k : ℕ) (h v : ℤ)
@@ -71,24 +58,9 @@ pair_at l First Backward k h v e p q = λ i. record { horizontal = (p ∙ ap (λ
 pair_at l Second Forward k h v e p q = λ i. record { horizontal = (p ∙ ap (λ (j : ℕ). number_at l (4 * j)) e) i; vertical = (q ∙ ap (λ (j : ℕ). number_at l (4 * j + 4)) e) i }
 pair_at l Second Backward k h v e p q = λ i. record { horizontal = (p ∙ ap (λ (j : ℕ). number_at l (4 * j)) e) i; vertical = (q ∙ ap (λ (j : ℕ). number_at l (4 * j + 4)) e) i }
 
--- x and then y written to the two halves of l
-pub halves_written : (k : ℕ) (l : List ℕ) {a b x y : List ℕ}
-    → a ≡ x → b ≡ y → length x ≡ k → length y ≡ k → length l ≡ k + k
-    → put_mid k k (a ++ post_of 0 k l) b ≡ x ++ y
-halves_written k l {a} {b} {x} {y} e f n m h =
-    rw (e, f, take_at x (drop k l) k n, drop_at x (drop k l) k n, drop-drop k k l, ← h, drop-length l, append-nil y)
-
 -- eight bytes written to &mut l[k..k + 8]
 pub replaced_is : (k : ℕ) (l ys : List ℕ) → put_mid k (k + 8 - k) l ys ≡ take k l ++ (ys ++ drop (k + 8) l)
 replaced_is k l ys = let e : k + 8 - k ≡ 8 = omega arith in rw (e, drop-drop 8 k l)
-
-pub pair_length : (h v : ℤ) → length (pair_bytes h v) ≡ 8
-unfolding bytes_of
-pair_length h v = refl
-
-pub four_length : (a b c d : ℤ) → length (pair_bytes a b ++ pair_bytes c d) ≡ 16
-unfolding bytes_of
-four_length a b c d = refl
 
 -- ---- eight numbers
 
@@ -107,15 +79,12 @@ eight_of (a ∷ b ∷ c ∷ d ∷ e ∷ []) n = absurd (omega arith)
 eight_of (a ∷ b ∷ c ∷ d ∷ e ∷ f ∷ []) n = absurd (omega arith)
 eight_of (a ∷ b ∷ c ∷ d ∷ e ∷ f ∷ g ∷ []) n = absurd (omega arith)
 
--- their bytes, in two halves
-abbrev InHalves : List ℤ → Type 0
-InHalves l =
-    (let at : ℕ → ℤ = λ i. get_or l i (pos 0) in
-    (pair_bytes (at 0) (at 1) ++ pair_bytes (at 2) (at 3)) ++ (pair_bytes (at 4) (at 5) ++ pair_bytes (at 6) (at 7)) ≡ numbers_bytes l)
-
-pub eight_bytes : (l : List ℤ) → length l ≡ 8 → InHalves l
+-- their bytes
+pub eight_bytes : (l : List ℤ) → length l ≡ 8 → (let at : ℕ → List ℕ = λ i. bytes_of (get_or l i (pos 0)) in
+    at 0 ++ (at 1 ++ (at 2 ++ (at 3 ++ (at 4 ++ (at 5 ++ (at 6 ++ at 7)))))) ≡ numbers_bytes l)
 unfolding bytes_of numbers_bytes
-eight_bytes l n = in_halves (eight_of l n)
+eight_bytes l n = in_order (eight_of l n)
   where
-    in_halves : {l : List ℤ} → Eight l → InHalves l
-    in_halves (eight a b c d e f g h) = refl
+    in_order : {l : List ℤ} → Eight l → (let at : ℕ → List ℕ = λ i. bytes_of (get_or l i (pos 0)) in
+        at 0 ++ (at 1 ++ (at 2 ++ (at 3 ++ (at 4 ++ (at 5 ++ (at 6 ++ at 7)))))) ≡ numbers_bytes l)
+    in_order (eight a b c d e f g h) = refl

@@ -4,7 +4,8 @@
 use Rattle.std.specs.Prelude.{Bool, false, not, ◌&&◌, ◌||◌, cond, List, ℕ, zero, suc, eqb, ℤ, Option, Some, None, is_some, unwrap_or, Result, Ok, Err}
 use Rattle.combine_predictions.specs.Refusals.{refusal_number}
 use Rattle.forming_predictions.specs.declared.FieldParity.TheVariants.{Top}
-use Rattle.pmv.specs.Kinds.{flag_from, chroma_from, parity_from, index_from, direction_from, format_from, structure_from, type_from}
+use Rattle.forming_predictions.specs.Parities.{parity_from}
+use Rattle.pmv.specs.Kinds.{flag_from, chroma_from, index_from, direction_from, format_from, structure_from, type_from}
 use Rattle.pmv.specs.Predictors.{pair_of}
 use Rattle.pmv.specs.Vector.{ported, reconstructed_pair}
 use Rattle.pmv.specs.declared.component.VectorRefusal.{VectorRefusal}

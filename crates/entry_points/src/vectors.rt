@@ -5,7 +5,7 @@ ghost use Rattle.combine_predictions.specs.Refusals.{refusal_number};
 ghost use Rattle.pmv.specs.Predictors.{pair_of};
 ghost use Rattle.pmv.specs.Refusals.{vector_number, update_number};
 ghost use Rattle.pmv.specs.Update.{update_refusal, update_outcome, outcome_number, updated};
-ghost use Rattle.entry_points.specs.Layout.{word_of, signed_of, bytes_of, number_at, pair_bytes, predictors_of, predictor_bytes, with_pair};
+ghost use Rattle.entry_points.specs.Layout.{bytes_of, number_at, pair_bytes, predictors_of, predictor_bytes, with_pair};
 ghost use Rattle.entry_points.specs.Entries.{call_number, unless_number, residual_of, type_of, vector_known, update_known, index_of, direction_of, format_of, structure_of, motion_vector_of, context_of, vector_from, vector_bytes};
 ghost use Rattle.entry_points.specs.inner.Outcomes.{outcome_byte};
 
@@ -20,59 +20,45 @@ use pmv::vector::{MotionVector, VectorComponents, reconstructed_pair};
 
 // ---- the buffers: 32-bit numbers in two's complement, each as four bytes, the lowest first
 
-/// The number of a word. The compiler makes nothing of the test and of the sum.
-fn signed(x: u32) -> i32
-    ensures { result ≡ signed_of x }
-{
-    if x < 2147483648 {
-        return x as i32;
-    }
-    let wide = x as i64;
-    (wide - 4294967296) as i32
-}
-
-/// The word of a number.
-fn unsigned(v: i32) -> u32
-    ensures { result ≡ word_of v }
-{
-    if v < 0 {
-        let wide = v as i64;
-        return (wide + 4294967296) as u32;
-    }
-    v as u32
-}
-
-fn wide(x: u8) -> u32
-    ensures { (result ≡ x) × (result < 256) }
-{
-    x as u32
-}
-
 /// The number whose first byte is at `at`.
+#[tactic(auto, unfolding(crate::specs::Layout::number_at))]
 fn load(bytes: &[u8], at: usize) -> i32
     requires { at + 4 ≤ length bytes.now }
     ensures { result ≡ number_at bytes.now at }
 {
-    let a = wide(bytes[at]);
-    let b = wide(bytes[at + 1]);
-    let c = wide(bytes[at + 2]);
-    let d = wide(bytes[at + 3]);
-    signed(a + b * 256 + c * 65536 + d * 16777216)
+    i32::from_le_bytes([bytes[at], bytes[at + 1], bytes[at + 2], bytes[at + 3]])
 }
 
-/// A number into four bytes.
-fn store(v: i32, out: &mut [u8])
-    requires { length out.old ≡ 4 }
-    ensures { out.new ≡ bytes_of v }
+/// The eight bytes of two numbers.
+#[tactic(auto, unfolding(crate::specs::Layout::bytes_of))]
+fn pair_bytes(horizontal: i32, vertical: i32) -> [u8; 8]
+    ensures { result ≡ pair_bytes horizontal vertical }
 {
-    let n = unsigned(v);
-    out[0] = (n % 256) as u8;
-    out[1] = (n / 256 % 256) as u8;
-    out[2] = (n / 65536 % 256) as u8;
-    out[3] = (n / 16777216 % 256) as u8;
+    let mut bytes = [0; 8];
+    bytes[0..4].copy_from_slice(&horizontal.to_le_bytes());
+    bytes[4..8].copy_from_slice(&vertical.to_le_bytes());
+    bytes
+}
+
+/// The 32 bytes of all predictors.
+fn predictor_bytes(p: Pmv) -> [u8; 32]
+    ensures { result ≡ predictor_bytes p }
+{
+    let v = p.values;
+    let mut bytes = [0; 32];
+    bytes[0..4].copy_from_slice(&v[0].to_le_bytes());
+    bytes[4..8].copy_from_slice(&v[1].to_le_bytes());
+    bytes[8..12].copy_from_slice(&v[2].to_le_bytes());
+    bytes[12..16].copy_from_slice(&v[3].to_le_bytes());
+    bytes[16..20].copy_from_slice(&v[4].to_le_bytes());
+    bytes[20..24].copy_from_slice(&v[5].to_le_bytes());
+    bytes[24..28].copy_from_slice(&v[6].to_le_bytes());
+    bytes[28..32].copy_from_slice(&v[7].to_le_bytes());
+    bytes
 }
 
 /// PMV\[r\]\[s\]\[1:0\] in the 32 bytes of the predictors.
+
 fn load_pair(bytes: &[u8], r: VectorIndex, s: Direction) -> PredictorPair
     requires { length bytes.now ≡ 32 }
     ensures { result ≡ pair_of (predictors_of bytes.now) r s }
@@ -85,6 +71,7 @@ fn load_pair(bytes: &[u8], r: VectorIndex, s: Direction) -> PredictorPair
 }
 
 /// All predictors.
+#[tactic(auto, unfolding(crate::specs::Layout::predictors_of))]
 fn load_predictors(bytes: &[u8]) -> Pmv
     requires { length bytes.now ≡ 32 }
     ensures { result ≡ predictors_of bytes.now }
@@ -103,42 +90,14 @@ fn load_predictors(bytes: &[u8]) -> Pmv
     }
 }
 
-/// Two numbers into eight bytes.
-fn store_pair(horizontal: i32, vertical: i32, out: &mut [u8])
-    requires { length out.old ≡ 8 }
-    ensures { out.new ≡ pair_bytes horizontal vertical }
-{
-    store(horizontal, &mut out[0..4]);
-    store(vertical, &mut out[4..8]);
-}
-
 /// PMV\[r\]\[s\]\[1:0\] replaced in the 32 bytes of the predictors.
+#[tactic(auto, unfolding(crate::specs::Layout::with_pair), using(crate::proofs::Words::replaced_is))]
 fn replace_pair(pair: PredictorPair, r: VectorIndex, s: Direction, out: &mut [u8])
     requires { length out.old ≡ 32 }
     ensures { out.new ≡ with_pair out.old r s pair }
 {
     let k = 4 * place_of(r, s, Component::Horizontal);
-    let e = k + 8;
-    store_pair(pair.horizontal, pair.vertical, &mut out[k..e]);
-}
-
-/// Four numbers into sixteen bytes.
-fn store_four(a: i32, b: i32, c: i32, d: i32, out: &mut [u8])
-    requires { length out.old ≡ 16 }
-    ensures { out.new ≡ pair_bytes a b ++ pair_bytes c d }
-{
-    store_pair(a, b, &mut out[0..8]);
-    store_pair(c, d, &mut out[8..16]);
-}
-
-/// All predictors into 32 bytes.
-fn store_predictors(p: Pmv, out: &mut [u8])
-    requires { length out.old ≡ 32 }
-    ensures { out.new ≡ predictor_bytes p }
-{
-    let v = p.values;
-    store_four(v[0], v[1], v[2], v[3], &mut out[0..16]);
-    store_four(v[4], v[5], v[6], v[7], &mut out[16..32]);
+    out[k..k + 8].copy_from_slice(&pair_bytes(pair.horizontal, pair.vertical));
 }
 
 // ---- what the numbers mean, and whether those that are read have a meaning. All are tested together, by `&`, and read after: with a `?` at
@@ -168,7 +127,7 @@ fn type_of(present: u32, number: u32) -> Option<PredictionType>
 }
 
 /// Whether the numbers that a vector is read with have a meaning, and the buffers their lengths.
-#[tactic(auto, unfolding(crate::specs::Entries::vector_known))]
+#[tactic(auto, unfolding(crate::specs::Entries::vector_known), using(crate::proofs::Reading::known_ok))]
 fn vector_known(
     r: u32,
     s: u32,
@@ -192,7 +151,7 @@ fn vector_known(
 }
 
 /// The same for an update. A motion type that is absent is not read.
-#[tactic(auto, unfolding(crate::specs::Entries::update_known))]
+#[tactic(auto, unfolding(crate::specs::Entries::update_known), using(crate::proofs::Reading::known_ok))]
 fn update_known(
     picture_structure: u32,
     type_present: u32,
@@ -207,12 +166,13 @@ fn update_known(
     ensures { result ≡ update_known picture_structure type_present prediction_type forward backward intra concealment predictors outcome }
 {
     let structure = PictureStructure::try_from(picture_structure);
+    let present = flag_from_number(type_present);
     let kind = PredictionType::try_from(prediction_type);
     let f = flag_from_number(forward);
     let b = flag_from_number(backward);
     let i = flag_from_number(intra);
     let c = flag_from_number(concealment);
-    (structure.is_ok() & ((type_present == 0) | ((type_present == 1) & kind.is_ok())))
+    (structure.is_ok() & (present.is_ok() & (!is_yes(type_present) | kind.is_ok())))
         & (((f.is_ok() & b.is_ok()) & (i.is_ok() & c.is_ok()))
             & ((predictors == 32) & (outcome == 1)))
 }
@@ -229,7 +189,7 @@ fn store_vector(answer: Result<VectorComponents, VectorRefusal>, out: &mut [u8])
         Ok(c) => {
             let h = c.horizontal;
             let v = c.vertical;
-            store_pair(h.vector_prime, v.vector_prime, out);
+            out.copy_from_slice(&pair_bytes(h.vector_prime, v.vector_prime));
             0
         }
         Err(refusal) => refusal.into(),
@@ -294,7 +254,7 @@ fn update_in_bytes(ctx: PmvUpdateContext, predictors: &mut [u8], outcome: &mut [
     ensures outcome { outcome.new ≡ unless_number result (outcome_number (update_outcome ctx) ∷ []) outcome.old }
 {
     let update = updated_predictors(load_predictors(predictors), ctx);
-    store_predictors(update.pmv, predictors);
+    predictors.copy_from_slice(&predictor_bytes(update.pmv));
     outcome[0] = outcome_byte(update.answer, outcome[0]);
     update_code(update.answer)
 }

@@ -14,38 +14,19 @@ use Rattle.entry_points.proofs.vectors.fozdrik_reconstruct_motion_vector.Goals a
 pub vector_in_bytes-requires : goal.vector_in_bytes-requires
 vector_in_bytes-requires c = vector_lengths _ _ _ _ _ _ _ _ (sym c.if-not-vector_known.ensures)
 
-pub returns-clause-number : goal.returns-clause-number
-returns-clause-number c =
+pub returns : goal.returns
+returns c =
     let a = c.args in
+    let known = sym c.if-not-vector_known.ensures in
     let r = read_value (index_from a.r) First c.unwrap_or.ensures c.try_from.ensures in
     let s = read_value (direction_from a.s) Forward c.unwrap_or-2.ensures c.try_from-2.ensures in
     let f = read_value (format_from a.mv_format) Format.Field c.unwrap_or-3.ensures c.try_from-3.ensures in
     let t = read_value (structure_from a.picture_structure) TopField c.unwrap_or-4.ensures c.try_from-4.ensures in
     let h = to_z-of_z c.ranges.motion_code_horiz in
     let v = to_z-of_z c.ranges.motion_code_vert in
-    rw (sym c.if-not-vector_known.ensures)
-    (rw (r, s, f, t, h, v, c.residual_of.ensures, c.residual_of-2.ensures) at c.vector_in_bytes.ensures.number)
-
-pub returns-clause-predictors : goal.returns-clause-predictors
-returns-clause-predictors c =
-    let a = c.args in
-    let r = read_value (index_from a.r) First c.unwrap_or.ensures c.try_from.ensures in
-    let s = read_value (direction_from a.s) Forward c.unwrap_or-2.ensures c.try_from-2.ensures in
-    let f = read_value (format_from a.mv_format) Format.Field c.unwrap_or-3.ensures c.try_from-3.ensures in
-    let t = read_value (structure_from a.picture_structure) TopField c.unwrap_or-4.ensures c.try_from-4.ensures in
-    let h = to_z-of_z c.ranges.motion_code_horiz in
-    let v = to_z-of_z c.ranges.motion_code_vert in
-    rw (sym c.if-not-vector_known.ensures)
-    (rw (r, s, f, t, h, v, c.residual_of.ensures, c.residual_of-2.ensures) at c.vector_in_bytes.ensures.predictors)
-
-pub returns-clause-vector : goal.returns-clause-vector
-returns-clause-vector c =
-    let a = c.args in
-    let r = read_value (index_from a.r) First c.unwrap_or.ensures c.try_from.ensures in
-    let s = read_value (direction_from a.s) Forward c.unwrap_or-2.ensures c.try_from-2.ensures in
-    let f = read_value (format_from a.mv_format) Format.Field c.unwrap_or-3.ensures c.try_from-3.ensures in
-    let t = read_value (structure_from a.picture_structure) TopField c.unwrap_or-4.ensures c.try_from-4.ensures in
-    let h = to_z-of_z c.ranges.motion_code_horiz in
-    let v = to_z-of_z c.ranges.motion_code_vert in
-    rw (sym c.if-not-vector_known.ensures)
-    (rw (r, s, f, t, h, v, c.residual_of.ensures, c.residual_of-2.ensures) at c.vector_in_bytes.ensures.vector)
+    let e = rw (r, s, f, t, h, v, c.residual_of.ensures, c.residual_of-2.ensures) at c.vector_in_bytes.ensures in
+    record {
+      number = rw known e.number;
+      predictors = rw known e.predictors;
+      vector = rw known e.vector;
+    }
