@@ -1,13 +1,7 @@
 -- What is read, as a number. For the benchmark alone: nothing here is from the standard or from docs/SCOPE.md.
 use Rattle.std.specs.Prelude.{ℕ, zero, suc}
 use Rattle.forming_predictions.specs.Lines.{Lines, frame, field}
-use Rattle.forming_predictions.specs.declared.FieldParity.{FieldParity}
 use Rattle.forming_predictions.specs.declared.FieldParity.TheVariants.{Top, Bottom}
-
--- 0 is the top field, and else the bottom field
-abbrev pub parity_of : ℕ → FieldParity
-parity_of zero = Top
-parity_of (suc n) = Bottom
 
 -- 0 is the top field, 1 the bottom field, and any other number the frame
 abbrev pub lines_of : ℕ → Lines

@@ -9,9 +9,12 @@ ghost use Rattle.forming_predictions.specs.Lines.{sample_at};
 ghost use Rattle.forming_predictions.specs.Means.{rounded};
 ghost use Rattle.forming_predictions.specs.Forming.{predicted_block};
 ghost use Rattle.forming_predictions.specs.Refusals.{forming_number, block_refusal};
-ghost use Rattle.bench_blocks.specs.Sources.{parity_of, lines_of};
+ghost use Rattle.bench_blocks.specs.Sources.{lines_of};
 
-use forming_predictions::{BlockSize, FieldParity, FieldReference, FormingRefusal, ReferencePlane};
+use forming_predictions::{
+    BlockSize, FieldParity, FieldReference, FormingRefusal, PlaneSides, ReferencePlane,
+    predict_block,
+};
 
 /// 0, or the number of the refusal.
 fn code_of(answer: Result<(), FormingRefusal>) -> u32
@@ -21,15 +24,6 @@ fn code_of(answer: Result<(), FormingRefusal>) -> u32
         Ok(()) => 0,
         Err(refusal) => u32::from(refusal),
     }
-}
-
-fn parity_of(from: u32) -> FieldParity
-    ensures { result ≡ parity_of from }
-{
-    if from == 0 {
-        return FieldParity::Top;
-    }
-    FieldParity::Bottom
 }
 
 /// `from` is 0 for the top field, 1 for the bottom field, and else the frame.
@@ -51,29 +45,22 @@ pub extern "C" fn fozdrik_bench_block(
     ensures buffer { out.new ≡ unless_refused (block_refusal width height (length samples.now) x y block_width block_height (length out.old)) (predicted_block rounded (sample_at (lines_of from) width height samples.now) block_width block_height x y horizontal vertical) out.old }
 {
     let plane = ReferencePlane {
-        width: width,
-        height: height,
+        sides: PlaneSides {
+            width: width,
+            height: height,
+        },
+        samples: samples,
     };
     let size = BlockSize {
         width: block_width,
         height: block_height,
     };
-    if from > 1 {
-        return code_of(forming_predictions::predict_block(
-            plane, samples, x, y, size, horizontal, vertical, out,
-        ));
-    }
-    code_of(forming_predictions::predict_field_block(
-        FieldReference {
-            plane: plane,
-            parity: parity_of(from),
-        },
-        samples,
-        x,
-        y,
-        size,
-        horizontal,
-        vertical,
-        out,
-    ))
+    let Ok(parity) = FieldParity::try_from(from) else {
+        return code_of(predict_block(plane, x, y, size, horizontal, vertical, out));
+    };
+    let field = FieldReference {
+        plane: plane,
+        parity: parity,
+    };
+    code_of(predict_block(field, x, y, size, horizontal, vertical, out))
 }
