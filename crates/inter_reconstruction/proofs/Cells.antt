@@ -1,7 +1,7 @@
 -- A macroblock's parts: their sizes and positions, once over width and height, and the bytes that they make together.
 -- Assumes nothing.
 use mathlib.Core.Path.{◌≡◌, refl, sym, ◌∙◌}
-use mathlib.Core.List.{List, ◌++◌}
+use mathlib.Core.List.{List, ◌++◌, append_assoc}
 use Prim.Native.Nat.{ℕ, zero, suc, ◌+◌, ◌*◌, ◌%◌, ◌≤◌}
 use native.Mathlib.Nat.{mul-le-mul, zero-mul, suc-mul}
 use native.Mathlib.Omega.{arith}
@@ -17,9 +17,7 @@ use Rattle.inter_reconstruction.specs.Macroblock.{first_column, first_row, used_
 use Rattle.inter_reconstruction.specs.inner.Blocks.{AreaFits, FieldRows, ChromaSides}
 use Rattle.inter_reconstruction.specs.inner.Areas.{PartAt}
 use Rattle.inter_reconstruction.specs.declared.area.Area.{Area}
-use Rattle.inter_reconstruction.specs.inner.Planes.{CellFits, BlocksFit, chroma_blocks}
-use Rattle.inter_reconstruction.proofs.Begun.{append_count}
-use Rattle.inter_reconstruction.proofs.Rectangles.{rectangle_length}
+use Rattle.inter_reconstruction.specs.inner.Planes.{CellFits, BlocksFit}
 
 -- the chrominance's sides, for all formats
 chroma_sides : (f : ChromaFormat) → ChromaSides (block_width f cb) (block_height f cb)
@@ -53,13 +51,6 @@ pub luma_rows : (row : ℕ) → FieldRows (row * 16) 16
 luma_rows row = record { first = omega arith; even = refl }
 
 -- ---- the chrominance
-pub chroma_length : (f b : ColourComponent → PlaneReading) (u : Uses) (w h x y : ℕ) → length (chroma_blocks f b u w h x y) ≡ w * h + w * h
-unfolding chroma_blocks
-chroma_length f b u w h x y =
-    let block : PlaneReading → PlaneReading → List ℕ = λ f b. rectangle w h (used_sample rounded f b u) x y in
-    let n : (f b : PlaneReading) → length (block f b) ≡ w * h = λ f b. rectangle_length w h (used_sample rounded f b u) x y in
-    append_count (block (f cb) (b cb)) (block (f cr) (b cr)) (w * h) (w * h) _ (n (f cb) (b cb)) (n (f cr) (b cr)) refl
-
 module _ (f : ChromaFormat) {w h : ℕ} (ew : w ≡ block_width f cb) (eh : h ≡ block_height f cb) where
   sides : ChromaSides w h
   sides = rw (ew, eh) (chroma_sides f)
@@ -108,10 +99,11 @@ chroma_area_rows f {row = row} k = rw (k.line, k.height) (chroma_rows f refl ref
 
 -- ---- the bytes
 
-pub parts_are : (f : ChromaFormat) (forward backward : ColourComponent → PlaneReading) (u v : Uses) (col row : ℕ) (a b : List ℕ)
+pub parts_are : (f : ChromaFormat) (forward backward : ColourComponent → PlaneReading) (u v : Uses) (col row : ℕ) (a b r : List ℕ)
     → v ≡ chroma_uses f u
     → a ≡ part f luma (used_sample rounded (forward luma) (backward luma) u) col row
-    → b ≡ chroma_blocks forward backward v (block_width f cb) (block_height f cb) (first_column f cb col) (first_row f cb row)
-    → a ++ b ≡ predicted rounded f forward backward u col row
-unfolding macroblock chroma_blocks
-parts_are f forward backward u v col row a b ev ea eb = rw (ea, eb, ev)
+    → b ≡ part f cb (used_sample rounded (forward cb) (backward cb) v) col row
+    → r ≡ part f cr (used_sample rounded (forward cr) (backward cr) v) col row
+    → (a ++ b) ++ r ≡ predicted rounded f forward backward u col row
+unfolding macroblock
+parts_are f forward backward u v col row a b r ev ea eb er = append_assoc a b r ∙ rw (ea, eb, er, ev)

@@ -1,12 +1,11 @@
 //! ISO/IEC 13818-2, 7.6.4 to 7.6.7: the three components of a macroblock, of one direction or of two.
-ghost use Rattle.std.specs.Prelude.{◌≡◌, ◌++◌, ◌+◌, ◌*◌, length};
+ghost use Rattle.std.specs.Prelude.{◌≡◌, ◌++◌, ◌+◌, length};
 ghost use Rattle.forming_predictions.specs.Means.{rounded};
 ghost use Rattle.inter_reconstruction.specs.declared.motion.Uses.TheVariants.{Both};
 ghost use Rattle.inter_reconstruction.specs.Components.{ColourComponent};
 ghost use Rattle.inter_reconstruction.specs.Frames.{read_frame, sides_of, samples_in};
 ghost use Rattle.inter_reconstruction.specs.Macroblock.{predicted};
-ghost use Rattle.inter_reconstruction.specs.inner.Blocks.{FieldRows};
-ghost use Rattle.inter_reconstruction.specs.inner.Planes.{FrameFits, CellFits, BlocksFit, directed_part, directed, chroma_blocks};
+ghost use Rattle.inter_reconstruction.specs.inner.Planes.{FrameFits, CellFits, BlocksFit, directed_part, directed};
 
 use crate::area::Area;
 use crate::blocks::{predict_direction, predict_two, store_chosen};
@@ -89,41 +88,6 @@ pub(crate) fn predict_from_one(
 
 // ---- the three components of two directions
 
-/// Both chrominance components, one after the other.
-fn predict_chroma(
-    forward_motion: DirectionMotion,
-    forward: FrameBuffer<'_>,
-    backward_motion: DirectionMotion,
-    backward: FrameBuffer<'_>,
-    at: Area,
-    out: &mut [u8],
-)
-    requires frames_fit { FrameFits (sides_of forward) (samples_in forward) × FrameFits (sides_of backward) (samples_in backward) }
-    requires rows_fit { FieldRows at.y at.height × (length out.old ≡ at.width * at.height + at.width * at.height) }
-    ensures { let forward_read = read_frame (sides_of forward.entry) (samples_in forward.entry) in
-        let backward_read = read_frame (sides_of backward.entry) (samples_in backward.entry) in
-        out.new ≡ chroma_blocks forward_read backward_read (Both forward_motion backward_motion) at.width at.height at.x at.y }
-{
-    let n = at.bytes();
-    let e = n + n;
-    predict_two(
-        forward.cb,
-        forward_motion,
-        backward.cb,
-        backward_motion,
-        at,
-        &mut out[0..n],
-    );
-    predict_two(
-        forward.cr,
-        forward_motion,
-        backward.cr,
-        backward_motion,
-        at,
-        &mut out[n..e],
-    );
-}
-
 /// A macroblock with two directions.
 pub(crate) fn predict_from_two(
     forward_motion: DirectionMotion,
@@ -140,21 +104,34 @@ pub(crate) fn predict_from_two(
         let backward_read = read_frame (sides_of backward.entry) (samples_in backward.entry) in
         out.new ≡ predicted rounded chroma_format forward_read backward_read (Both forward_motion backward_motion) mb_col mb_row }
 {
+    let luma_at = Area::luma(mb_col, mb_row);
+    let chroma_at = Area::chroma(chroma_format, mb_col, mb_row);
+    let forward_chroma = forward_motion.chroma(chroma_format);
+    let backward_chroma = backward_motion.chroma(chroma_format);
+    let a = 256 + chroma_at.bytes();
     let e = out.len();
     predict_two(
         forward.y,
         forward_motion,
         backward.y,
         backward_motion,
-        Area::luma(mb_col, mb_row),
+        luma_at,
         &mut out[0..256],
     );
-    predict_chroma(
-        forward_motion.chroma(chroma_format),
-        forward,
-        backward_motion.chroma(chroma_format),
-        backward,
-        Area::chroma(chroma_format, mb_col, mb_row),
-        &mut out[256..e],
+    predict_two(
+        forward.cb,
+        forward_chroma,
+        backward.cb,
+        backward_chroma,
+        chroma_at,
+        &mut out[256..a],
+    );
+    predict_two(
+        forward.cr,
+        forward_chroma,
+        backward.cr,
+        backward_chroma,
+        chroma_at,
+        &mut out[a..e],
     );
 }

@@ -1,5 +1,5 @@
 -- What the functions on all three planes ask, and what they give. For private contracts alone.
-use Rattle.std.specs.Prelude.{◌≡◌, not, List, ◌++◌, ℕ, ◌≤◌, eqb, Option, Some}
+use Rattle.std.specs.Prelude.{◌≡◌, not, List, ℕ, ◌≤◌, eqb, Option, Some}
 use Rattle.combine_predictions.specs.Refusals.{cause, or_else}
 use Rattle.combine_predictions.specs.declared.PredictionDirection.{PredictionDirection}
 use Rattle.forming_predictions.specs.Means.{rounded}
@@ -57,10 +57,6 @@ missing_in PredictionDirection.Backward = BackwardMissing
 missing_in PredictionDirection.Skipped = ForwardMissing
 
 -- ---- both directions
-
--- both chrominance components
-unfoldable pub chroma_blocks : (ColourComponent → PlaneReading) → (ColourComponent → PlaneReading) → Uses → ℕ → ℕ → ℕ → ℕ → List ℕ
-chroma_blocks f b u w h x y = rectangle w h (used_sample rounded (f cb) (b cb) u) x y ++ rectangle w h (used_sample rounded (f cr) (b cr) u) x y
 
 -- what is refused of one reference that is there, and of two
 abbrev pub frame_refusal : FrameGeometry → FrameSides → (ColourComponent → ℕ) → Option PredictionRefusal
