@@ -118,17 +118,17 @@ fn predict_fields(plane: ReferencePlane<'_>, at: Area, pair: FieldVectorPair, ou
 
 /// The block of one direction.
 pub(crate) fn predict_direction(
-    plane: ReferencePlane<'_>,
+    plane: &ReferencePlane<'_>,
     at: Area,
-    motion: DirectionMotion,
+    motion: &DirectionMotion,
     out: &mut [u8],
 )
-    requires { PlaneFits plane.sides plane.samples.now × (length out.old ≡ at.width * at.height) × FieldRows at.y at.height }
-    ensures { out.new ≡ rectangle at.width at.height (direction_sample rounded (read_plane plane.entry.sides plane.entry.samples.now) motion) at.x at.y }
+    requires { PlaneFits plane.now.sides plane.now.samples.now × (length out.old ≡ at.width * at.height) × FieldRows at.y at.height }
+    ensures { out.new ≡ rectangle at.width at.height (direction_sample rounded (read_plane plane.now.sides plane.now.samples.now) motion.now) at.x at.y }
 {
-    match motion {
-        DirectionMotion::Frame(v) => predict_rows(plane, at, v, out),
-        DirectionMotion::Field(pair) => predict_fields(plane, at, pair, out),
+    match *motion {
+        DirectionMotion::Frame(v) => predict_rows(*plane, at, v, out),
+        DirectionMotion::Field(pair) => predict_fields(*plane, at, pair, out),
     }
 }
 
@@ -156,15 +156,15 @@ pub(crate) fn store_chosen(direction: PredictionDirection, block: &[u8], out: &m
 
 /// The block of a macroblock with two directions: each predicted into a local block, then averaged.
 pub(crate) fn predict_two(
-    forward: ReferencePlane<'_>,
-    forward_motion: DirectionMotion,
-    backward: ReferencePlane<'_>,
-    backward_motion: DirectionMotion,
+    forward: &ReferencePlane<'_>,
+    forward_motion: &DirectionMotion,
+    backward: &ReferencePlane<'_>,
+    backward_motion: &DirectionMotion,
     at: Area,
     out: &mut [u8],
 )
-    requires { PlaneFits forward.sides forward.samples.now × PlaneFits backward.sides backward.samples.now × (length out.old ≡ at.width * at.height) × FieldRows at.y at.height }
-    ensures { out.new ≡ rectangle at.width at.height (used_sample rounded (read_plane forward.entry.sides forward.entry.samples.now) (read_plane backward.entry.sides backward.entry.samples.now) (Both forward_motion backward_motion)) at.x at.y }
+    requires { PlaneFits forward.now.sides forward.now.samples.now × PlaneFits backward.now.sides backward.now.samples.now × (length out.old ≡ at.width * at.height) × FieldRows at.y at.height }
+    ensures { out.new ≡ rectangle at.width at.height (used_sample rounded (read_plane forward.now.sides forward.now.samples.now) (read_plane backward.now.sides backward.now.samples.now) (Both forward_motion.now backward_motion.now)) at.x at.y }
 {
     // fixed memory, as above
     let mut first = [0u8; 256];

@@ -20,24 +20,24 @@ use pmv::kinds::ChromaFormat;
 fn predict_blocks(
     motion: DirectionMotion,
     chroma_format: ChromaFormat,
-    frame: FrameBuffer<'_>,
+    frame: &FrameBuffer<'_>,
     mb_col: usize,
     mb_row: usize,
     y_block: &mut [u8],
     cb_block: &mut [u8],
     cr_block: &mut [u8],
 )
-    requires { FrameFits (sides_of frame) (samples_in frame) × BlocksFit chroma_format mb_col mb_row (length y_block.old) (length cb_block.old) (length cr_block.old) }
-    ensures y_block_at_exit { y_block.new ≡ directed_part chroma_format (read_frame (sides_of frame.entry) (samples_in frame.entry)) motion ColourComponent.luma mb_col mb_row }
-    ensures cb_block_at_exit { cb_block.new ≡ directed_part chroma_format (read_frame (sides_of frame.entry) (samples_in frame.entry)) motion ColourComponent.cb mb_col mb_row }
-    ensures cr_block_at_exit { cr_block.new ≡ directed_part chroma_format (read_frame (sides_of frame.entry) (samples_in frame.entry)) motion ColourComponent.cr mb_col mb_row }
+    requires { FrameFits (sides_of frame.now) (samples_in frame.now) × BlocksFit chroma_format mb_col mb_row (length y_block.old) (length cb_block.old) (length cr_block.old) }
+    ensures y_block_at_exit { y_block.new ≡ directed_part chroma_format (read_frame (sides_of frame.now) (samples_in frame.now)) motion ColourComponent.luma mb_col mb_row }
+    ensures cb_block_at_exit { cb_block.new ≡ directed_part chroma_format (read_frame (sides_of frame.now) (samples_in frame.now)) motion ColourComponent.cb mb_col mb_row }
+    ensures cr_block_at_exit { cr_block.new ≡ directed_part chroma_format (read_frame (sides_of frame.now) (samples_in frame.now)) motion ColourComponent.cr mb_col mb_row }
 {
     let luma_at = Area::luma(mb_col, mb_row);
     let chroma_at = Area::chroma(chroma_format, mb_col, mb_row);
     let chroma = motion.chroma(chroma_format);
-    predict_direction(frame.y, luma_at, motion, y_block);
-    predict_direction(frame.cb, chroma_at, chroma, cb_block);
-    predict_direction(frame.cr, chroma_at, chroma, cr_block);
+    predict_direction(&frame.y, luma_at, &motion, y_block);
+    predict_direction(&frame.cb, chroma_at, &chroma, cb_block);
+    predict_direction(&frame.cr, chroma_at, &chroma, cr_block);
 }
 
 /// Writes the three blocks of the one direction that there is.
@@ -59,13 +59,13 @@ pub(crate) fn predict_from_one(
     direction: PredictionDirection,
     motion: DirectionMotion,
     chroma_format: ChromaFormat,
-    frame: FrameBuffer<'_>,
+    frame: &FrameBuffer<'_>,
     mb_col: usize,
     mb_row: usize,
     out: &mut [u8],
 )
-    requires { FrameFits (sides_of frame) (samples_in frame) × CellFits chroma_format mb_col mb_row (length out.old) }
-    ensures { out.new ≡ directed chroma_format (read_frame (sides_of frame.entry) (samples_in frame.entry)) motion mb_col mb_row }
+    requires { FrameFits (sides_of frame.now) (samples_in frame.now) × CellFits chroma_format mb_col mb_row (length out.old) }
+    ensures { out.new ≡ directed chroma_format (read_frame (sides_of frame.now) (samples_in frame.now)) motion mb_col mb_row }
 {
     let size = chroma_mb_extent(chroma_format);
     let n = size.width * size.height;
@@ -93,15 +93,15 @@ pub(crate) fn predict_from_two(
     forward_motion: DirectionMotion,
     backward_motion: DirectionMotion,
     chroma_format: ChromaFormat,
-    forward: FrameBuffer<'_>,
-    backward: FrameBuffer<'_>,
+    forward: &FrameBuffer<'_>,
+    backward: &FrameBuffer<'_>,
     mb_col: usize,
     mb_row: usize,
     out: &mut [u8],
 )
-    requires { FrameFits (sides_of forward) (samples_in forward) × FrameFits (sides_of backward) (samples_in backward) × CellFits chroma_format mb_col mb_row (length out.old) }
-    ensures { let forward_read = read_frame (sides_of forward.entry) (samples_in forward.entry) in
-        let backward_read = read_frame (sides_of backward.entry) (samples_in backward.entry) in
+    requires { FrameFits (sides_of forward.now) (samples_in forward.now) × FrameFits (sides_of backward.now) (samples_in backward.now) × CellFits chroma_format mb_col mb_row (length out.old) }
+    ensures { let forward_read = read_frame (sides_of forward.now) (samples_in forward.now) in
+        let backward_read = read_frame (sides_of backward.now) (samples_in backward.now) in
         out.new ≡ predicted rounded chroma_format forward_read backward_read (Both forward_motion backward_motion) mb_col mb_row }
 {
     let luma_at = Area::luma(mb_col, mb_row);
@@ -111,26 +111,26 @@ pub(crate) fn predict_from_two(
     let a = 256 + chroma_at.bytes();
     let e = out.len();
     predict_two(
-        forward.y,
-        forward_motion,
-        backward.y,
-        backward_motion,
+        &forward.y,
+        &forward_motion,
+        &backward.y,
+        &backward_motion,
         luma_at,
         &mut out[0..256],
     );
     predict_two(
-        forward.cb,
-        forward_chroma,
-        backward.cb,
-        backward_chroma,
+        &forward.cb,
+        &forward_chroma,
+        &backward.cb,
+        &backward_chroma,
         chroma_at,
         &mut out[256..a],
     );
     predict_two(
-        forward.cr,
-        forward_chroma,
-        backward.cr,
-        backward_chroma,
+        &forward.cr,
+        &forward_chroma,
+        &backward.cr,
+        &backward_chroma,
         chroma_at,
         &mut out[a..e],
     );

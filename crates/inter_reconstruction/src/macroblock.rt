@@ -68,8 +68,8 @@ pub fn planes_fit(frame: FrameSides, y: &[u8], cb: &[u8], cr: &[u8]) -> bool
 }
 
 /// The same of a frame with its samples.
-fn frame_fits(frame: FrameBuffer<'_>) -> bool
-    ensures { result ≡ planes_fit (sides_of frame.entry) (lengths_of (samples_in frame.entry)) }
+fn frame_fits(frame: &FrameBuffer<'_>) -> bool
+    ensures { result ≡ planes_fit (sides_of frame.now) (lengths_of (samples_in frame.now)) }
 {
     planes_fit(
         frame.sides(),
@@ -84,14 +84,14 @@ fn predict_with_one(
     dest: FrameGeometry,
     direction: PredictionDirection,
     motion: DirectionMotion,
-    frame: FrameBuffer<'_>,
+    frame: &FrameBuffer<'_>,
     mb_col: usize,
     mb_row: usize,
     out: &mut [u8],
 ) -> Result<(), PredictionRefusal>
     requires { CellFits dest.chroma_format mb_col mb_row (length out.old) }
-    ensures answer { result ≡ answered (frame_refusal dest (sides_of frame.entry) (lengths_of (samples_in frame.entry))) tt }
-    ensures buffer { out.new ≡ unless_refused (result_err result) (directed dest.chroma_format (read_frame (sides_of frame.entry) (samples_in frame.entry)) motion mb_col mb_row) out.old }
+    ensures answer { result ≡ answered (frame_refusal dest (sides_of frame.now) (lengths_of (samples_in frame.now))) tt }
+    ensures buffer { out.new ≡ unless_refused (result_err result) (directed dest.chroma_format (read_frame (sides_of frame.now) (samples_in frame.now)) motion mb_col mb_row) out.old }
 {
     let declared = frame.geometry;
     if !same_geometry(declared, dest) {
@@ -132,7 +132,7 @@ fn predict_alone(
 {
     match reference {
         None => Err(missing_in(direction)),
-        Some(frame) => predict_with_one(dest, direction, motion, frame, mb_col, mb_row, out),
+        Some(frame) => predict_with_one(dest, direction, motion, &frame, mb_col, mb_row, out),
     }
 }
 
@@ -141,18 +141,18 @@ fn predict_with_two(
     dest: FrameGeometry,
     forward_motion: DirectionMotion,
     backward_motion: DirectionMotion,
-    forward: FrameBuffer<'_>,
-    backward: FrameBuffer<'_>,
+    forward: &FrameBuffer<'_>,
+    backward: &FrameBuffer<'_>,
     mb_col: usize,
     mb_row: usize,
     out: &mut [u8],
 ) -> Result<(), PredictionRefusal>
     requires { CellFits dest.chroma_format mb_col mb_row (length out.old) }
-    ensures answer { let forward_lengths = lengths_of (samples_in forward.entry) in
-        let backward_lengths = lengths_of (samples_in backward.entry) in
-        result ≡ answered (frames_refusal dest (sides_of forward.entry) forward_lengths (sides_of backward.entry) backward_lengths) tt }
-    ensures buffer { let forward_read = read_frame (sides_of forward.entry) (samples_in forward.entry) in
-        let backward_read = read_frame (sides_of backward.entry) (samples_in backward.entry) in
+    ensures answer { let forward_lengths = lengths_of (samples_in forward.now) in
+        let backward_lengths = lengths_of (samples_in backward.now) in
+        result ≡ answered (frames_refusal dest (sides_of forward.now) forward_lengths (sides_of backward.now) backward_lengths) tt }
+    ensures buffer { let forward_read = read_frame (sides_of forward.now) (samples_in forward.now) in
+        let backward_read = read_frame (sides_of backward.now) (samples_in backward.now) in
         let prediction = predicted rounded dest.chroma_format forward_read backward_read (Both forward_motion backward_motion) mb_col mb_row in
         out.new ≡ unless_refused (result_err result) prediction out.old }
 {
@@ -208,8 +208,8 @@ fn predict_both(
                 dest,
                 forward_motion,
                 backward_motion,
-                first,
-                second,
+                &first,
+                &second,
                 mb_col,
                 mb_row,
                 out,

@@ -17,8 +17,8 @@ returns c =
     let long : (ys : List ℕ) (rule : ℕ → ℕ → ℕ) → ys ≡ rectangle at.width at.height rule at.x at.y → length ys ≡ n
     = λ ys rule e. ap length e ∙ rectangle_length at.width at.height rule at.x at.y ∙ sym c.bytes-n.ensures in
     averaged_is at.width at.height
-    (direction_sample rounded (read_plane a.forward.sides a.forward.samples.now) a.forward_motion)
-    (direction_sample rounded (read_plane a.backward.sides a.backward.samples.now) a.backward_motion)
+    (direction_sample rounded (read_plane a.forward.now.sides a.forward.now.samples.now) a.forward_motion.now)
+    (direction_sample rounded (read_plane a.backward.now.sides a.backward.now.samples.now) a.backward_motion.now)
     at.x at.y _ _ _ _ _
     (front_is n c.predict_direction.new.out (drop n (blank 256)) (long _ _ c.predict_direction.ensures) ∙ c.predict_direction.ensures)
     (front_is n c.predict_direction-2.new.out (drop n (blank 256)) (long _ _ c.predict_direction-2.ensures) ∙ c.predict_direction-2.ensures)

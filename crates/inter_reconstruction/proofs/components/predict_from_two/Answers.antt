@@ -52,7 +52,7 @@ predict_two-requires-3 c =
       c.requires.0 cr,
       c.requires.1 cr,
       part_length (put_mid 256 (256 + m - 256) (put_mid 0 (256 - 0) c.args.out.now c.predict_two.new.out) c.predict_two-2.new.out) (256 + m) (length c.args.out.now) (omega (arith, begun_length begun))
-      ∙ omega (arith, total, n),
+          ∙ omega (arith, total, n),
       chroma_area_rows f k,
     )
 
@@ -64,8 +64,8 @@ returns c =
     let k = c.chroma-chroma_at.ensures in
     let n = c.bytes-a.ensures in
     let m = c.bytes-a.result in
-    let forward = read_frame (sides_of a.forward) (samples_in a.forward) in
-    let backward = read_frame (sides_of a.backward) (samples_in a.backward) in
+    let forward = read_frame (sides_of a.forward.now) (samples_in a.forward.now) in
+    let backward = read_frame (sides_of a.backward.now) (samples_in a.backward.now) in
     let total = chroma_total f k.width k.height c.requires.2 in
     let first = ap length c.predict_two.ensures ∙ rectangle_length _ _ _ _ _ ∙ area_bytes at in
     let second = ap length c.predict_two-2.ensures ∙ rectangle_length _ _ _ _ _ ∙ sym n in

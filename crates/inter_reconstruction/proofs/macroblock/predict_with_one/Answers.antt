@@ -8,4 +8,4 @@ use Rattle.inter_reconstruction.proofs.macroblock.predict_with_one.Goals as goal
 pub predict_from_one-requires : goal.predict_from_one-requires
 predict_from_one-requires c =
     let a = c.args in
-    (frame_fits (sides_of a.frame) (samples_in a.frame) (sym c.frame_fits.ensures ∙ c.if-not-frame_fits.false), c.requires)
+    (frame_fits (sides_of a.frame.now) (samples_in a.frame.now) (sym c.frame_fits.ensures ∙ c.if-not-frame_fits.false), c.requires)
