@@ -1,10 +1,10 @@
 -- Decimal numbers. The format is this repository's.
-use Rattle.std.specs.Prelude.{◌≡◌, Bool, true, ◌&&◌, cond, List, [], ◌∷◌, ℕ, ◌+◌, ◌*◌, ◌-◌, eqb, leb, ltb, ℤ, pos, neg_ℤ, length, get_or, drop, Result, Ok, Err}
+use Rattle.std.specs.Prelude.{◌≡◌, Bool, true, false, ◌&&◌, cond, List, [], ◌∷◌, ℕ, zero, suc, ◌+◌, ◌*◌, ◌-◌, ◌<◌, eqb, leb, ltb, ℤ, pos, neg_ℤ, length, get_or, drop, Result, Ok, Err}
 use Rattle.std.specs.List.{prefix_len}
 use Rattle.lists.specs.declared.class.Class.TheVariants.{Digit}
 use Rattle.lists.specs.declared.unread.Unread.{Unread}
 use Rattle.lists.specs.declared.unread.Unread.TheVariants.{Malformed}
-use Rattle.lists.specs.Text.{in_class, word_at}
+use Rattle.lists.specs.Text.{in_class, word_at, word_end}
 
 -- 1 to 18 digits
 abbrev pub is_natural : List ℕ → Bool
@@ -44,3 +44,20 @@ pub record IsKindAt {K E : Type 0} (answers : ℕ → Result K E → Type 0) (s 
   pub number : ℕ
   pub there : number_at s at ≡ Ok (pos number)
   pub answered : answers number answer
+
+-- the place behind so many words
+unfoldable pub words_end : List ℕ → ℕ → ℕ → ℕ
+words_end s at zero = at
+words_end s at (suc k) = word_end s (words_end s at k)
+
+abbrev pub ZerosAt : List ℕ → ℕ → ℕ → Type 0
+ZerosAt s at count = (k : ℕ) → k < count → number_at s (words_end s at k) ≡ Ok (pos 0)
+
+-- a 1 says that something follows, and else a 0 stands there, and so many in place of what is absent
+abbrev pub PresentAt : List ℕ → ℕ → ℕ → Bool → Type 0
+PresentAt s at fields true = number_at s at ≡ Ok (pos 1)
+PresentAt s at fields false = (number_at s at ≡ Ok (pos 0)) × ZerosAt s (word_end s at) fields
+
+abbrev pub present_end : List ℕ → ℕ → ℕ → Bool → ℕ
+present_end s at fields true = word_end s at
+present_end s at fields false = words_end s (word_end s at) fields

@@ -1,11 +1,11 @@
 //! Decimal numbers.
-ghost use Rattle.std.specs.Prelude.{◌≡◌, ◌≢◌, ℕ, pos, ◌^◌, ◌≤◌, ◌<◌, cond, length, Some, None, IfSome, Ok, Err, OnErr};
+ghost use Rattle.std.specs.Prelude.{◌≡◌, ◌≢◌, ℕ, pos, ◌^◌, ◌≤◌, ◌<◌, cond, length, Some, None, IfSome, Ok, Err, IfOk, IfErr, OnErr};
 ghost use Rattle.std.specs.Int.{from_bool};
 ghost use Rattle.std.specs.Result.{MatchResult};
 ghost use Rattle.lists.specs.declared.unread.Unread.TheVariants.{Malformed};
 ghost use Rattle.lists.specs.Places.{MovesTo};
 ghost use Rattle.lists.specs.Text.{word_at, word_end};
-ghost use Rattle.lists.specs.Numbers.{digit_of, decimal, is_natural, is_number, number_of, number_at, IsNumberAt, IsKindAt};
+ghost use Rattle.lists.specs.Numbers.{digit_of, decimal, is_natural, is_number, number_of, number_at, IsNumberAt, IsKindAt, ZerosAt, words_end, PresentAt, present_end};
 
 use crate::class::Class;
 use crate::cursor::Cursor;
@@ -42,6 +42,32 @@ impl Cursor<'_> {
             1 => Ok(true),
             _ => Err(Unread::Malformed),
         }
+    }
+
+    /// Reads so many zeros.
+    fn zeros(&mut self, count: usize) -> Result<(), Unread>
+        ensures zeros { IfOk result (λ _. ZerosAt self.old.text.now self.old.at count) }
+        ensures malformed { IfErr result (λ e. e ≡ Malformed) }
+        ensures moved { IfOk result (λ _. MovesTo self.old self.new (words_end self.old.text.now self.old.at count)) }
+    {
+        for _ in 0..count {
+            if self.integer()? != 0 {
+                return Err(Unread::Malformed);
+            }
+        }
+        Ok(())
+    }
+
+    /// Reads whether something of so many fields follows: 1, or 0 and a 0 in place of each.
+    pub fn present(&mut self, fields: usize) -> Result<bool, Unread>
+        ensures present { MatchResult result (PresentAt self.old.text.now self.old.at fields) (λ e. e ≡ Malformed) }
+        ensures moved { IfOk result (λ b. MovesTo self.old self.new (present_end self.old.text.now self.old.at fields b)) }
+    {
+        let present = self.flag()?;
+        if !present {
+            self.zeros(fields)?;
+        }
+        Ok(present)
     }
 
     /// Reads the number of a kind; one that has no meaning is malformed.

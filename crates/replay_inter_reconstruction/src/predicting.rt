@@ -1,5 +1,4 @@
 //! Predicting a macroblock.
-use crate::fields;
 use drawn::{Planes, References};
 use inter_reconstruction::frames::FrameBuffer;
 use inter_reconstruction::macroblock::predict_macroblock_planes;
@@ -10,9 +9,11 @@ use tally::{LONGEST, Lent, number_and_value};
 
 /// `PRESENT WIDTH HEIGHT CHROMA`: a reference with these planes.
 fn reference(case: &mut Cursor<'_>, planes: &Planes) -> Result<Option<FrameBuffer>, Unread> {
-    let geometry = fields::option(case, 3, drawn::geometry)?;
-    Ok(geometry.map(|geometry| FrameBuffer {
-        geometry,
+    if !case.present(3)? {
+        return Ok(None);
+    }
+    Ok(Some(FrameBuffer {
+        geometry: drawn::geometry(case)?,
         y: planes.y.sides,
         cb: planes.cb.sides,
         cr: planes.cr.sides,

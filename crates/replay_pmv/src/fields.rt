@@ -45,33 +45,25 @@ pub(crate) fn coding_type(case: &mut Cursor<'_>) -> Result<PictureCodingType, Un
     Ok(coding_type)
 }
 
-/// What is absent has a 0 in its place.
-fn nothing<T>(case: &mut Cursor<'_>) -> Result<Option<T>, Unread> {
-    match case.integer()? {
-        0 => Ok(None),
-        _ => Err(Unread::Malformed),
-    }
-}
-
 /// `PRESENT RESIDUAL`.
 pub(crate) fn residual(case: &mut Cursor<'_>) -> Result<Option<u8>, Unread> {
-    if case.flag()? {
-        return Ok(Some(case.number()?));
+    if !case.present(1)? {
+        return Ok(None);
     }
-    nothing(case)
+    Ok(Some(case.number()?))
 }
 
 /// `PRESENT TYPE`.
 pub(crate) fn prediction_type(case: &mut Cursor<'_>) -> Result<Option<PredictionType>, Unread> {
-    if case.flag()? {
-        let number = case.number()?;
-        let prediction_type = kind::<PredictionType>(number)?;
-        if u32::from(prediction_type) != number {
-            return Err(Unread::Malformed);
-        }
-        return Ok(Some(prediction_type));
+    if !case.present(1)? {
+        return Ok(None);
     }
-    nothing(case)
+    let number = case.number()?;
+    let prediction_type = kind::<PredictionType>(number)?;
+    if u32::from(prediction_type) != number {
+        return Err(Unread::Malformed);
+    }
+    Ok(Some(prediction_type))
 }
 
 /// `P0..P7`, or `Q0..Q7`.

@@ -11,7 +11,6 @@ mod lent;
 
 pub use answers::{number_and_value, number_of};
 pub use lent::Lent;
-
 use lists::{Cursor, Line, Unread};
 use std::alloc::AllocError;
 use std::io;

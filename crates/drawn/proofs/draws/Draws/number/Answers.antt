@@ -1,6 +1,6 @@
 -- Three draws, one after the other.
 -- Assumes nothing.
-use Rattle.std.proofs.Common.{sym, ap, ◌∙◌, ◌≡◌}
+use Rattle.std.proofs.Common.{sym, ap, ◌∙◌}
 use Rattle.drawn.specs.Draws.{next_number}
 use Rattle.drawn.proofs.Runs.{number_after_three}
 use Rattle.drawn.proofs.draws.Draws.number.Goals as goal

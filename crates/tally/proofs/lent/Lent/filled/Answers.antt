@@ -1,6 +1,6 @@
 -- The two numbers, and the ramp that they say.
 -- Assumes nothing.
-use Rattle.std.proofs.Common.{arith, ◌≡◌, ◌∙◌, ◌+◌, length, pos, rules}
+use Rattle.std.proofs.Common.{rules}
 use Rattle.std.proofs.lemmas.Result.{IfOk-weaker}
 use Rattle.tally.specs.Lent.{IsNew, FilledAt}
 use Rattle.tally.proofs.lent.Lent.filled.Goals as goal
@@ -8,13 +8,13 @@ use Rattle.tally.proofs.lent.Lent.filled.Goals as goal
 pub returns-clause-filled : goal.returns-clause-filled
 returns-clause-filled c =
     IfOk-weaker c.new.result (IsNew c.in_ok-room.room.items) (FilledAt c.args.case.now.text.now c.args.case.now.at)
-      (λ l h.
-        record {
-          first = c.in_ok-first.first;
-          count = c.in_ok-length.length;
-          first_at = search rules;
-          count_at = search rules;
-          few = search rules;
-          new = rw (← c.in_ok-room.ensures.bytes) h;
-        })
-      c.new.ensures
+    (λ l h.
+    record {
+      first = c.in_ok-first.first;
+      count = c.in_ok-length.length;
+      first_at = search rules;
+      count_at = search rules;
+      few = search rules;
+      new = rw (← c.in_ok-room.ensures.bytes) h;
+    })
+    c.new.ensures
