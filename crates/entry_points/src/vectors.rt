@@ -324,6 +324,7 @@ pub fn fozdrik_reconstruct_motion_vector(
 }
 
 /// The predictors after a macroblock, and the outcome's number in one byte: 0, or the number of the refusal.
+#[tactic(auto, using(crate::proofs::Updates::update_lengths))]
 pub fn fozdrik_update_predictors(
     picture_structure: u32,
     prediction_type_present: u32,
