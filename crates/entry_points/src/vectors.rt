@@ -57,7 +57,6 @@ fn predictor_bytes(p: Pmv) -> [u8; 32]
 }
 
 /// PMV\[r\]\[s\]\[1:0\] in the 32 bytes of the predictors.
-
 fn load_pair(bytes: &[u8], r: VectorIndex, s: Direction) -> PredictorPair
     requires { length bytes.now ≡ 32 }
     ensures { result ≡ pair_of (predictors_of bytes.now) r s }
@@ -100,7 +99,7 @@ fn replace_pair(pair: PredictorPair, r: VectorIndex, s: Direction, out: &mut [u8
 }
 
 // ---- what the numbers mean, and whether those that are read have a meaning. All are tested together, by `&`, and read after: with a `?` at
-// each, an update took 124 instructions in place of 117, and a jump depended on each flag.
+// each, an update took 7 instructions more, and a jump depended on each flag.
 
 /// A residual that is absent is not read.
 #[tactic(auto, unfolding(crate::specs::Entries::residual_of))]

@@ -3,8 +3,8 @@ use Rattle.std.specs.Prelude.{Bool, true, false, Option, Result, Ok, Err}
 use Rattle.pmv.specs.Kinds.{no_meaning}
 use Rattle.pmv.specs.declared.kinds.NoMeaning.{NoMeaning}
 use Rattle.entry_points.specs.Entries.{reference_of}
-use Rattle.entry_points.specs.declared.prediction.reading.PredictionRead.{PredictionRead}
-use Rattle.entry_points.specs.declared.prediction.reading.ReferenceNumbers.{ReferenceNumbers}
+use Rattle.entry_points.specs.declared.numbers.PredictionRead.{PredictionRead}
+use Rattle.entry_points.specs.declared.numbers.ReferenceNumbers.{ReferenceNumbers}
 use Rattle.inter_reconstruction.specs.declared.frames.FrameGeometry.{FrameGeometry}
 use Rattle.inter_reconstruction.specs.declared.frames.FrameBuffer.{FrameBuffer}
 

@@ -1,21 +1,20 @@
-//! The C call for a macroblock that is predicted by two vectors in each direction, one for each of its fields.
+//! The C call for a macroblock that is predicted by one vector in each direction.
 ghost use Rattle.std.specs.Prelude.{◌≡◌, length, is_some};
 ghost use Rattle.forming_predictions.specs.Means.{rounded};
-ghost use Rattle.inter_reconstruction.specs.Motion.{field_uses};
+ghost use Rattle.inter_reconstruction.specs.Motion.{frame_uses};
 ghost use Rattle.inter_reconstruction.specs.Frames.{samples_of, lengths_of, read_reference};
 ghost use Rattle.inter_reconstruction.specs.Macroblock.{predicted};
 ghost use Rattle.inter_reconstruction.specs.Refusals.{prediction_number, prediction_refusal};
-ghost use Rattle.entry_points.specs.Entries.{call_number, unless_number, field_known, geometry_of, reference_of, field_motion_of};
+ghost use Rattle.entry_points.specs.Entries.{call_number, unless_number, frame_known, geometry_of, reference_of, frame_motion_of};
 
-use crate::prediction::NO_MEANING;
-use crate::prediction::reading::{
-    FieldPairNumbers, FieldVectorNumbers, GeometryNumbers, ReferenceNumbers, predict_read,
-    read_prediction,
+use crate::numbers::{
+    FrameVectorNumbers, GeometryNumbers, ReferenceNumbers, predict_read, read_prediction,
 };
+use crate::prediction::NO_MEANING;
 use forming_predictions::ReferencePlane;
 
-/// The prediction of a field-based macroblock: 0, or the number of the refusal.
-pub fn fozdrik_predict_field_macroblock(
+/// The prediction of a frame-based macroblock: 0, or the number of the refusal.
+pub fn fozdrik_predict_frame_macroblock(
     width: usize,
     height: usize,
     chroma_format: u32,
@@ -48,40 +47,28 @@ pub fn fozdrik_predict_field_macroblock(
     backward_cb: &[u8],
     backward_cr: &[u8],
     forward_motion: u32,
-    forward_top_field: u32,
-    forward_top_horizontal: i32,
-    forward_top_vertical: i32,
-    forward_bottom_field: u32,
-    forward_bottom_horizontal: i32,
-    forward_bottom_vertical: i32,
+    forward_horizontal: i32,
+    forward_vertical: i32,
     backward_motion: u32,
-    backward_top_field: u32,
-    backward_top_horizontal: i32,
-    backward_top_vertical: i32,
-    backward_bottom_field: u32,
-    backward_bottom_horizontal: i32,
-    backward_bottom_vertical: i32,
+    backward_horizontal: i32,
+    backward_vertical: i32,
     out: &mut [u8],
 ) -> u32
-    ensures number { let known = field_known chroma_format forward_present forward_format backward_present backward_format forward_motion forward_top_field forward_bottom_field backward_motion backward_top_field backward_bottom_field in
+    ensures number { let known = frame_known chroma_format forward_present forward_format backward_present backward_format forward_motion backward_motion in
         let dest = geometry_of width height chroma_format in
         let forward = reference_of forward_present forward_width forward_height forward_format forward_y_width forward_y_height forward_cb_width forward_cb_height forward_cr_width forward_cr_height in
         let backward = reference_of backward_present backward_width backward_height backward_format backward_y_width backward_y_height backward_cb_width backward_cb_height backward_cr_width backward_cr_height in
         let forward_lengths = lengths_of (samples_of forward_y.now forward_cb.now forward_cr.now) in
         let backward_lengths = lengths_of (samples_of backward_y.now backward_cb.now backward_cr.now) in
-        let motion = field_motion_of
-        forward_motion forward_top_field forward_top_horizontal forward_top_vertical forward_bottom_field forward_bottom_horizontal forward_bottom_vertical
-        backward_motion backward_top_field backward_top_horizontal backward_top_vertical backward_bottom_field backward_bottom_horizontal backward_bottom_vertical in
-        let used = field_uses motion (is_some forward) (is_some backward) in
+        let motion = frame_motion_of forward_motion forward_horizontal forward_vertical backward_motion backward_horizontal backward_vertical in
+        let used = frame_uses motion (is_some forward) (is_some backward) in
         let refusal = prediction_refusal dest (length out.old) forward forward_lengths backward backward_lengths used mb_col mb_row in
         result ≡ call_number prediction_number known refusal }
     ensures buffer { let dest = geometry_of width height chroma_format in
         let forward = reference_of forward_present forward_width forward_height forward_format forward_y_width forward_y_height forward_cb_width forward_cb_height forward_cr_width forward_cr_height in
         let backward = reference_of backward_present backward_width backward_height backward_format backward_y_width backward_y_height backward_cb_width backward_cb_height backward_cr_width backward_cr_height in
-        let motion = field_motion_of
-        forward_motion forward_top_field forward_top_horizontal forward_top_vertical forward_bottom_field forward_bottom_horizontal forward_bottom_vertical
-        backward_motion backward_top_field backward_top_horizontal backward_top_vertical backward_bottom_field backward_bottom_horizontal backward_bottom_vertical in
-        let used = field_uses motion (is_some forward) (is_some backward) in
+        let motion = frame_motion_of forward_motion forward_horizontal forward_vertical backward_motion backward_horizontal backward_vertical in
+        let used = frame_uses motion (is_some forward) (is_some backward) in
         let forward_read = read_reference forward (samples_of forward_y.now forward_cb.now forward_cr.now) in
         let backward_read = read_reference backward (samples_of backward_y.now backward_cb.now backward_cr.now) in
         let prediction = predicted rounded dest.chroma_format forward_read backward_read used mb_col mb_row in
@@ -133,31 +120,15 @@ pub fn fozdrik_predict_field_macroblock(
                 height: backward_cr_height,
             },
         },
-        FieldPairNumbers {
+        FrameVectorNumbers {
             present: forward_motion,
-            top: FieldVectorNumbers {
-                field: forward_top_field,
-                horizontal: forward_top_horizontal,
-                vertical: forward_top_vertical,
-            },
-            bottom: FieldVectorNumbers {
-                field: forward_bottom_field,
-                horizontal: forward_bottom_horizontal,
-                vertical: forward_bottom_vertical,
-            },
+            horizontal: forward_horizontal,
+            vertical: forward_vertical,
         },
-        FieldPairNumbers {
+        FrameVectorNumbers {
             present: backward_motion,
-            top: FieldVectorNumbers {
-                field: backward_top_field,
-                horizontal: backward_top_horizontal,
-                vertical: backward_top_vertical,
-            },
-            bottom: FieldVectorNumbers {
-                field: backward_bottom_field,
-                horizontal: backward_bottom_horizontal,
-                vertical: backward_bottom_vertical,
-            },
+            horizontal: backward_horizontal,
+            vertical: backward_vertical,
         },
     ) else {
         return NO_MEANING;

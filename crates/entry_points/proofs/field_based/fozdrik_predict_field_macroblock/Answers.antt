@@ -3,7 +3,7 @@
 use mir.Facts.{to_z-of_z}
 use Rattle.entry_points.specs.Entries.{field_known}
 use Rattle.entry_points.proofs.Reading.{was_read, not_read}
-use Rattle.entry_points.proofs.prediction.field_based.fozdrik_predict_field_macroblock.Goals as goal
+use Rattle.entry_points.proofs.field_based.fozdrik_predict_field_macroblock.Goals as goal
 
 pub returns-in_default-clause-number : goal.returns-in_default-clause-number
 unfolding field_known
