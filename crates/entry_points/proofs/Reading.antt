@@ -12,10 +12,6 @@ pub known_ok : {A : Type 0} (o : Option A) → is_ok (ok_or o no_meaning) ≡ is
 known_ok None = refl
 known_ok (Some x) = refl
 
-pub read_known : {A : Type 0} (o : Option A) {r : Result A NoMeaning} {b : Bool} → r ≡ ok_or o no_meaning → b ≡ is_ok r → b ≡ is_some o
-read_known None q p = rw q at p
-read_known (Some x) q p = rw q at p
-
 pub read_value : {A : Type 0} (o : Option A) (d : A) {r : Result A NoMeaning} {x : A}
     → x ≡ result_unwrap_or r d → r ≡ ok_or o no_meaning → x ≡ unwrap_or o d
 read_value None d p q = rw q at p

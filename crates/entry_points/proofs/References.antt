@@ -21,7 +21,7 @@ use Rattle.inter_reconstruction.specs.declared.motion.Uses.{Uses}
 use Rattle.inter_reconstruction.specs.declared.motion.Uses.TheVariants.{Forward, Backward, Both}
 use Rattle.entry_points.specs.Entries.{is_yes, reference_of}
 use Rattle.entry_points.specs.inner.Reading.{frame_meant, reference_meant}
-use Rattle.entry_points.specs.declared.prediction.reading.ReferenceNumbers.{ReferenceNumbers}
+use Rattle.entry_points.specs.declared.numbers.ReferenceNumbers.{ReferenceNumbers}
 
 -- a reference where it is present, with its samples and without
 abbrev held : Bool → FrameBuffer → Option FrameBuffer

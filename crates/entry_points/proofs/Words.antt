@@ -1,19 +1,19 @@
 -- Two's complement in 32 bits: a word and its bytes can be read back. And buffers that are written part by part.
 -- Assumes nothing.
 use mathlib.Core.Path.{◌≡◌, refl, sym, ap, ◌∙◌}
-use mathlib.Core.List.{List, [], ◌∷◌, ◌++◌, append-nil}
+use mathlib.Core.List.{List, [], ◌∷◌, ◌++◌}
 use Prim.Native.Nat.{ℕ, ◌+◌, ◌-◌, ◌*◌, ◌/◌, ◌%◌, ◌<◌}
 use native.Mathlib.Nat.{div-add-mod', mod-eq_of_lt}
 use native.Mathlib.Omega.{arith}
 use lib.IntN.{ℤ, pos, negsuc}
-use lib.ListN.{length, get_or, set, take, drop}
-use lib.Seq.{take_at, drop_at, drop-drop, drop-length}
+use lib.ListN.{length, get_or, take, drop}
+use lib.Seq.{drop-drop}
 use lib.Pow.{shr-shr}
 use mir.Syntax.{w32}
 use mir.Val.{SFits, of_z}
 use mir.Facts.{to_z-of_z, Fits-of_z}
-use borrow.Rule.Slice.PartMut.{put_mid, post_of}
-use Rattle.entry_points.specs.Layout.{word_of, signed_of, bytes_of, number_at, predictors_of, pair_bytes, numbers_bytes}
+use borrow.Rule.Slice.PartMut.{put_mid}
+use Rattle.entry_points.specs.Layout.{word_of, signed_of, bytes_of, number_at, predictors_of, numbers_bytes}
 use Rattle.pmv.specs.Predictors.{pmv_index, pair_of}
 use Rattle.pmv.specs.declared.kinds.Component.TheVariants.{Horizontal}
 use Rattle.pmv.specs.declared.kinds.VectorIndex.{VectorIndex}

@@ -2,14 +2,9 @@
 ghost use Rattle.std.specs.Prelude.{◌≡◌};
 ghost use Rattle.entry_points.specs.Entries.{is_yes};
 
+pub use crate::field_based::fozdrik_predict_field_macroblock;
+pub use crate::frame_based::fozdrik_predict_frame_macroblock;
 use pmv::kinds::flag_from_number;
-
-mod field_based;
-mod frame_based;
-mod reading;
-
-pub use field_based::fozdrik_predict_field_macroblock;
-pub use frame_based::fozdrik_predict_frame_macroblock;
 
 /// Refusal: a number that is read has no meaning.
 pub const NO_MEANING: u32 = 38;

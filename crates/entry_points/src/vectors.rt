@@ -29,15 +29,14 @@ fn load(bytes: &[u8], at: usize) -> i32
     i32::from_le_bytes([bytes[at], bytes[at + 1], bytes[at + 2], bytes[at + 3]])
 }
 
-/// The eight bytes of two numbers.
+/// Two numbers into eight bytes. Each is copied by itself: by way of an array of eight, a vector took 191 instructions in place of 187.
 #[tactic(auto, unfolding(crate::specs::Layout::bytes_of))]
-fn pair_bytes(horizontal: i32, vertical: i32) -> [u8; 8]
-    ensures { result ≡ pair_bytes horizontal vertical }
+fn store_pair(horizontal: i32, vertical: i32, out: &mut [u8])
+    requires { length out.old ≡ 8 }
+    ensures { out.new ≡ pair_bytes horizontal vertical }
 {
-    let mut bytes = [0; 8];
-    bytes[0..4].copy_from_slice(&horizontal.to_le_bytes());
-    bytes[4..8].copy_from_slice(&vertical.to_le_bytes());
-    bytes
+    out[0..4].copy_from_slice(&horizontal.to_le_bytes());
+    out[4..8].copy_from_slice(&vertical.to_le_bytes());
 }
 
 /// The 32 bytes of all predictors.
@@ -58,7 +57,6 @@ fn predictor_bytes(p: Pmv) -> [u8; 32]
 }
 
 /// PMV\[r\]\[s\]\[1:0\] in the 32 bytes of the predictors.
-
 fn load_pair(bytes: &[u8], r: VectorIndex, s: Direction) -> PredictorPair
     requires { length bytes.now ≡ 32 }
     ensures { result ≡ pair_of (predictors_of bytes.now) r s }
@@ -97,11 +95,11 @@ fn replace_pair(pair: PredictorPair, r: VectorIndex, s: Direction, out: &mut [u8
     ensures { out.new ≡ with_pair out.old r s pair }
 {
     let k = 4 * place_of(r, s, Component::Horizontal);
-    out[k..k + 8].copy_from_slice(&pair_bytes(pair.horizontal, pair.vertical));
+    store_pair(pair.horizontal, pair.vertical, &mut out[k..k + 8]);
 }
 
 // ---- what the numbers mean, and whether those that are read have a meaning. All are tested together, by `&`, and read after: with a `?` at
-// each, an update took 124 instructions in place of 117, and a jump depended on each flag.
+// each, an update took 7 instructions more, and a jump depended on each flag.
 
 /// A residual that is absent is not read.
 #[tactic(auto, unfolding(crate::specs::Entries::residual_of))]
@@ -189,7 +187,7 @@ fn store_vector(answer: Result<VectorComponents, VectorRefusal>, out: &mut [u8])
         Ok(c) => {
             let h = c.horizontal;
             let v = c.vertical;
-            out.copy_from_slice(&pair_bytes(h.vector_prime, v.vector_prime));
+            store_pair(h.vector_prime, v.vector_prime, out);
             0
         }
         Err(refusal) => refusal.into(),
@@ -325,6 +323,7 @@ pub fn fozdrik_reconstruct_motion_vector(
 }
 
 /// The predictors after a macroblock, and the outcome's number in one byte: 0, or the number of the refusal.
+#[tactic(auto, using(crate::proofs::Updates::update_lengths))]
 pub fn fozdrik_update_predictors(
     picture_structure: u32,
     prediction_type_present: u32,

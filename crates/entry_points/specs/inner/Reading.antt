@@ -3,8 +3,8 @@ use Rattle.std.specs.Prelude.{Bool, true, false, cond, Option, Some, None, Resul
 use Rattle.forming_predictions.specs.Parities.{no_meaning}
 use Rattle.forming_predictions.specs.declared.parity.NoMeaning.{NoMeaning}
 use Rattle.entry_points.specs.Entries.{is_yes, geometry_of}
-use Rattle.entry_points.specs.declared.prediction.reading.PredictionRead.{PredictionRead}
-use Rattle.entry_points.specs.declared.prediction.reading.ReferenceNumbers.{ReferenceNumbers}
+use Rattle.entry_points.specs.declared.numbers.PredictionRead.{PredictionRead}
+use Rattle.entry_points.specs.declared.numbers.ReferenceNumbers.{ReferenceNumbers}
 use Rattle.inter_reconstruction.specs.declared.frames.FrameGeometry.{FrameGeometry}
 use Rattle.inter_reconstruction.specs.declared.frames.FrameBuffer.{FrameBuffer}
 

@@ -4,7 +4,7 @@ use Rattle.std.proofs.Common.{sym, ap, ◌∙◌}
 use Rattle.combine_predictions.proofs.Answers.{is_refused}
 use Rattle.inter_reconstruction.specs.Refusals.{prediction_number}
 use Rattle.combine_predictions.specs.Refusals.{refusal_number}
-use Rattle.entry_points.proofs.prediction.reading.predict_read.Goals as goal
+use Rattle.entry_points.proofs.numbers.predict_read.Goals as goal
 
 pub returns-in-Err-clause-number : goal.returns-in-Err-clause-number
 returns-in-Err-clause-number g c =

@@ -7,11 +7,11 @@ ghost use Rattle.inter_reconstruction.specs.Macroblock.{predicted};
 ghost use Rattle.inter_reconstruction.specs.Refusals.{prediction_number, prediction_refusal};
 ghost use Rattle.entry_points.specs.Entries.{call_number, unless_number, field_known, geometry_of, reference_of, field_motion_of};
 
-use crate::prediction::NO_MEANING;
-use crate::prediction::reading::{
+use crate::numbers::{
     FieldPairNumbers, FieldVectorNumbers, GeometryNumbers, ReferenceNumbers, predict_read,
     read_prediction,
 };
+use crate::prediction::NO_MEANING;
 use forming_predictions::{PlaneSides, ReferencePlane};
 
 /// The prediction of a field-based macroblock: 0, or the number of the refusal.

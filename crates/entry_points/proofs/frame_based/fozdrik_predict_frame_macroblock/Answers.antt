@@ -2,21 +2,21 @@
 -- Assumes nothing.
 use Rattle.std.proofs.Common.{ap, ◌∙◌, List, ℕ}
 use Rattle.combine_predictions.specs.Refusals.{refusal_number}
-use Rattle.inter_reconstruction.specs.Motion.{field_uses}
+use Rattle.inter_reconstruction.specs.Motion.{frame_uses}
 use Rattle.inter_reconstruction.specs.Refusals.{prediction_number}
-use Rattle.entry_points.specs.declared.prediction.reading.ReferenceNumbers.{ReferenceNumbers}
+use Rattle.entry_points.specs.declared.numbers.ReferenceNumbers.{ReferenceNumbers}
 use Rattle.entry_points.proofs.References.{refusal_meant, bytes_meant}
 use mir.Facts.{to_z-of_z}
-use Rattle.entry_points.specs.Entries.{unless_number, field_known, field_motion_of}
+use Rattle.entry_points.specs.Entries.{unless_number, frame_known, frame_motion_of}
 use Rattle.entry_points.proofs.Reading.{was_read, not_read}
-use Rattle.entry_points.proofs.prediction.field_based.fozdrik_predict_field_macroblock.Goals as goal
+use Rattle.entry_points.proofs.frame_based.fozdrik_predict_frame_macroblock.Goals as goal
 
 pub returns-in_default-clause-number : goal.returns-in_default-clause-number
-unfolding field_known
+unfolding frame_known
 returns-in_default-clause-number c = rw (not_read _ _ c.in_default.ensures)
 
 pub returns : goal.returns
-unfolding field_known
+unfolding frame_known
 returns c =
     let a = c.args in
     let r = c.ranges in
@@ -36,14 +36,14 @@ returns c =
       cb = record { sides = record { width = a.backward_cb_width; height = a.backward_cb_height }; samples = a.backward_cb };
       cr = record { sides = record { width = a.backward_cr_width; height = a.backward_cr_height }; samples = a.backward_cr };
     } in
-    let motion = field_motion_of a.forward_motion a.forward_top_field a.forward_top_horizontal a.forward_top_vertical a.forward_bottom_field a.forward_bottom_horizontal a.forward_bottom_vertical a.backward_motion a.backward_top_field a.backward_top_horizontal a.backward_top_vertical a.backward_bottom_field a.backward_bottom_horizontal a.backward_bottom_vertical in
-    let k = was_read _ _ (rw (to_z-of_z r.forward_top_horizontal, to_z-of_z r.forward_top_vertical, to_z-of_z r.forward_bottom_horizontal, to_z-of_z r.forward_bottom_vertical, to_z-of_z r.backward_top_horizontal, to_z-of_z r.backward_top_vertical, to_z-of_z r.backward_bottom_horizontal, to_z-of_z r.backward_bottom_vertical) at c.in-Ok.ensures) in
+    let motion = frame_motion_of a.forward_motion a.forward_horizontal a.forward_vertical a.backward_motion a.backward_horizontal a.backward_vertical in
+    let k = was_read _ _ (rw (to_z-of_z r.forward_horizontal, to_z-of_z r.forward_vertical, to_z-of_z r.backward_horizontal, to_z-of_z r.backward_vertical) at c.in-Ok.ensures) in
     record {
       number =
           rw k.0
           ((rw k.1 at c.predict_read.ensures.number)
-          ∙ ap (refusal_number prediction_number) (refusal_meant forward backward (field_uses motion) a.mb_col a.mb_row _ _));
+          ∙ ap (refusal_number prediction_number) (refusal_meant forward backward (frame_uses motion) a.mb_col a.mb_row _ _));
       buffer =
           (rw k.1 at c.predict_read.ensures.buffer)
-          ∙ ap (λ (bytes : List ℕ). unless_number c.predict_read.result bytes a.out.now) (bytes_meant forward backward (field_uses motion) a.mb_col a.mb_row _);
+          ∙ ap (λ (bytes : List ℕ). unless_number c.predict_read.result bytes a.out.now) (bytes_meant forward backward (frame_uses motion) a.mb_col a.mb_row _);
     }

@@ -7,10 +7,10 @@ ghost use Rattle.inter_reconstruction.specs.Macroblock.{predicted};
 ghost use Rattle.inter_reconstruction.specs.Refusals.{prediction_number, prediction_refusal};
 ghost use Rattle.entry_points.specs.Entries.{call_number, unless_number, frame_known, geometry_of, reference_of, frame_motion_of};
 
-use crate::prediction::NO_MEANING;
-use crate::prediction::reading::{
+use crate::numbers::{
     FrameVectorNumbers, GeometryNumbers, ReferenceNumbers, predict_read, read_prediction,
 };
+use crate::prediction::NO_MEANING;
 use forming_predictions::{PlaneSides, ReferencePlane};
 
 /// The prediction of a frame-based macroblock: 0, or the number of the refusal.

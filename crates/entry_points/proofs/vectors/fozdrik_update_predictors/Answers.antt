@@ -1,8 +1,0 @@
--- Where all numbers are known, so are the lengths of both buffers.
--- Assumes nothing.
-use Rattle.std.proofs.Common.{sym}
-use Rattle.entry_points.proofs.Updates.{update_lengths}
-use Rattle.entry_points.proofs.vectors.fozdrik_update_predictors.Goals as goal
-
-pub update_in_bytes-requires : goal.update_in_bytes-requires
-update_in_bytes-requires c = update_lengths _ _ _ _ _ _ _ _ _ (sym c.if-not-update_known.ensures)
