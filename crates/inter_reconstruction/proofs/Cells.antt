@@ -1,11 +1,10 @@
 -- A macroblock's parts: their sizes and positions, once over width and height, and the bytes that they make together.
 -- Assumes nothing.
-use mathlib.Core.Path.{◌≡◌, refl, sym, ◌∙◌}
+use mathlib.Core.Path.{◌≡◌, refl, ◌∙◌}
 use mathlib.Core.List.{List, ◌++◌, append_assoc}
 use Prim.Native.Nat.{ℕ, zero, suc, ◌+◌, ◌*◌, ◌%◌, ◌≤◌}
 use native.Mathlib.Nat.{mul-le-mul, zero-mul, suc-mul}
 use native.Mathlib.Omega.{arith}
-use lib.ListN.{length}
 use Rattle.forming_predictions.specs.Means.{rounded}
 use Rattle.pmv.specs.declared.kinds.ChromaFormat.{ChromaFormat}
 use Rattle.pmv.specs.declared.kinds.ChromaFormat.TheVariants.{Yuv420, Yuv422, Yuv444}
@@ -13,7 +12,7 @@ use Rattle.inter_reconstruction.specs.declared.motion.Uses.{Uses}
 use Rattle.inter_reconstruction.specs.Components.{ColourComponent, luma, cb, cr, block_width, block_height, block_bytes, macroblock_bytes}
 use Rattle.inter_reconstruction.specs.Motion.{chroma_uses}
 use Rattle.inter_reconstruction.specs.Frames.{PlaneReading}
-use Rattle.inter_reconstruction.specs.Macroblock.{first_column, first_row, used_sample, rectangle, part, macroblock, predicted}
+use Rattle.inter_reconstruction.specs.Macroblock.{used_sample, rectangle, part, macroblock, predicted}
 use Rattle.inter_reconstruction.specs.inner.Blocks.{AreaFits, FieldRows, ChromaSides}
 use Rattle.inter_reconstruction.specs.inner.Areas.{PartAt}
 use Rattle.inter_reconstruction.specs.declared.area.Area.{Area}

@@ -6,6 +6,7 @@ use Prim.Native.Nat.{ℕ, ◌+◌, ◌*◌}
 use native.Mathlib.Omega.{arith}
 use lib.ListN.{length}
 use Rattle.laws.proofs.Tests.{both}
+use Rattle.std.specs.Prelude.{Option, Some, None, Ok, ok_or}
 use Rattle.forming_predictions.specs.Means.{rounded}
 use Rattle.forming_predictions.specs.Refusals.{plane_fits}
 use Rattle.pmv.specs.declared.kinds.ChromaFormat.{ChromaFormat}
@@ -21,6 +22,11 @@ use Rattle.inter_reconstruction.specs.inner.Planes.{FrameFits, directed}
 neither : (x y : Bool) → (x || y) ≡ false → (x ≡ false) × (y ≡ false)
 neither true y e = let z : ◌≡◌ {A = ℕ} 0 1 = cc in absurd (omega arith)
 neither false y e = (refl, e)
+
+-- what `?` goes on with was there
+pub is_there : {A E : Type 0} (o : Option A) (e : E) {x : A} → Ok x ≡ ok_or o e → o ≡ Some x
+is_there None e p = absurd cc
+is_there (Some y) e p = cc
 
 -- every plane fits
 abbrev plane_fits_lem : FrameSides → Samples → ColourComponent → Bool

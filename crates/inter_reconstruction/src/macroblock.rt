@@ -10,7 +10,7 @@ ghost use Rattle.inter_reconstruction.specs.Frames.{samples_of, lengths_of, read
 ghost use Rattle.inter_reconstruction.specs.Macroblock.{predicted};
 ghost use Rattle.inter_reconstruction.specs.Refusals.{prediction_number, same_geometry, planes_fit, one_refusal, references_refusal, prediction_refusal};
 ghost use Rattle.inter_reconstruction.specs.Answers.{accepted, directions_of, prediction_directions, refusal_among, refusal_from, prediction_from};
-ghost use Rattle.inter_reconstruction.specs.inner.Planes.{CellFits, directed, frame_refusal, frames_refusal, missing_in, destination_refusal};
+ghost use Rattle.inter_reconstruction.specs.inner.Planes.{CellFits, directed, missing_in, destination_refusal};
 
 use crate::components::{predict_from_one, predict_from_two};
 use crate::frames::{FrameBuffer, FrameGeometry, FrameSides, chroma_mb_extent};
@@ -79,32 +79,6 @@ fn frame_fits(frame: &FrameBuffer<'_>) -> bool
     )
 }
 
-/// One direction, whose reference is there: 15, then 14.
-fn predict_with_one(
-    dest: FrameGeometry,
-    direction: PredictionDirection,
-    motion: DirectionMotion,
-    frame: &FrameBuffer<'_>,
-    mb_col: usize,
-    mb_row: usize,
-    out: &mut [u8],
-) -> Result<(), PredictionRefusal>
-    requires { CellFits dest.chroma_format mb_col mb_row (length out.old) }
-    ensures answer { result ≡ answered (frame_refusal dest (sides_of frame.now) (lengths_of (samples_in frame.now))) tt }
-    ensures buffer { out.new ≡ unless_refused (result_err result) (directed dest.chroma_format (read_frame (sides_of frame.now) (samples_in frame.now)) motion mb_col mb_row) out.old }
-{
-    let declared = frame.geometry;
-    if !same_geometry(declared, dest) {
-        return Err(PredictionRefusal::OtherGeometry);
-    }
-    if !frame_fits(frame) {
-        return Err(PredictionRefusal::OutsideDomain);
-    }
-    let chroma_format = dest.chroma_format;
-    predict_from_one(direction, motion, chroma_format, frame, mb_col, mb_row, out);
-    Ok(())
-}
-
 /// The refusal of a direction whose reference is absent.
 fn missing_in(direction: PredictionDirection) -> PredictionRefusal
     ensures { result ≡ missing_in direction }
@@ -116,7 +90,7 @@ fn missing_in(direction: PredictionDirection) -> PredictionRefusal
     }
 }
 
-/// One direction, with its reference: 16 or 17 where that is absent.
+/// One direction: 16 or 17 where its reference is absent; 15; 14.
 fn predict_alone(
     dest: FrameGeometry,
     direction: PredictionDirection,
@@ -130,53 +104,18 @@ fn predict_alone(
     ensures answer { result ≡ answered (one_refusal (missing_in direction) dest (reference_sides reference.entry) (reference_lengths reference.entry)) tt }
     ensures buffer { out.new ≡ unless_refused (result_err result) (directed dest.chroma_format (reference_reading reference.entry) motion mb_col mb_row) out.old }
 {
-    match reference {
-        None => Err(missing_in(direction)),
-        Some(frame) => predict_with_one(dest, direction, motion, &frame, mb_col, mb_row, out),
-    }
-}
-
-/// Both directions, whose references are there: 15 of the forward one, then of the backward one, then 14.
-fn predict_with_two(
-    dest: FrameGeometry,
-    forward_motion: DirectionMotion,
-    backward_motion: DirectionMotion,
-    forward: &FrameBuffer<'_>,
-    backward: &FrameBuffer<'_>,
-    mb_col: usize,
-    mb_row: usize,
-    out: &mut [u8],
-) -> Result<(), PredictionRefusal>
-    requires { CellFits dest.chroma_format mb_col mb_row (length out.old) }
-    ensures answer { let forward_lengths = lengths_of (samples_in forward.now) in
-        let backward_lengths = lengths_of (samples_in backward.now) in
-        result ≡ answered (frames_refusal dest (sides_of forward.now) forward_lengths (sides_of backward.now) backward_lengths) tt }
-    ensures buffer { let forward_read = read_frame (sides_of forward.now) (samples_in forward.now) in
-        let backward_read = read_frame (sides_of backward.now) (samples_in backward.now) in
-        let prediction = predicted rounded dest.chroma_format forward_read backward_read (Both forward_motion backward_motion) mb_col mb_row in
-        out.new ≡ unless_refused (result_err result) prediction out.old }
-{
-    let forward_declared = forward.geometry;
-    if !same_geometry(forward_declared, dest) {
+    let frame = reference.ok_or(missing_in(direction))?;
+    if !same_geometry(frame.geometry, dest) {
         return Err(PredictionRefusal::OtherGeometry);
     }
-    let backward_declared = backward.geometry;
-    if !same_geometry(backward_declared, dest) {
-        return Err(PredictionRefusal::OtherGeometry);
-    }
-    if !frame_fits(forward) {
+    if !frame_fits(&frame) {
         return Err(PredictionRefusal::OutsideDomain);
     }
-    if !frame_fits(backward) {
-        return Err(PredictionRefusal::OutsideDomain);
-    }
-    let chroma_format = dest.chroma_format;
-    predict_from_two(
-        forward_motion,
-        backward_motion,
-        chroma_format,
-        forward,
-        backward,
+    predict_from_one(
+        direction,
+        motion,
+        dest.chroma_format,
+        &frame,
         mb_col,
         mb_row,
         out,
@@ -184,7 +123,8 @@ fn predict_with_two(
     Ok(())
 }
 
-/// Both directions: 16, then 17, where their references are absent. From the calls above either both are absent or none is.
+/// Both directions: 16, then 17, where their references are absent; 15 of the forward one, then of the backward one; 14. From the calls above
+/// either both are absent or none is.
 fn predict_both(
     dest: FrameGeometry,
     forward_motion: DirectionMotion,
@@ -200,22 +140,31 @@ fn predict_both(
     ensures buffer { let prediction = prediction_from dest.chroma_format forward.entry backward.entry (Both forward_motion backward_motion) mb_col mb_row in
         out.new ≡ unless_refused (result_err result) prediction out.old }
 {
-    match forward {
-        None => Err(PredictionRefusal::ForwardMissing),
-        Some(first) => match backward {
-            None => Err(PredictionRefusal::BackwardMissing),
-            Some(second) => predict_with_two(
-                dest,
-                forward_motion,
-                backward_motion,
-                &first,
-                &second,
-                mb_col,
-                mb_row,
-                out,
-            ),
-        },
+    let first = forward.ok_or(PredictionRefusal::ForwardMissing)?;
+    let second = backward.ok_or(PredictionRefusal::BackwardMissing)?;
+    if !same_geometry(first.geometry, dest) {
+        return Err(PredictionRefusal::OtherGeometry);
     }
+    if !same_geometry(second.geometry, dest) {
+        return Err(PredictionRefusal::OtherGeometry);
+    }
+    if !frame_fits(&first) {
+        return Err(PredictionRefusal::OutsideDomain);
+    }
+    if !frame_fits(&second) {
+        return Err(PredictionRefusal::OutsideDomain);
+    }
+    predict_from_two(
+        forward_motion,
+        backward_motion,
+        dest.chroma_format,
+        &first,
+        &second,
+        mb_col,
+        mb_row,
+        out,
+    );
+    Ok(())
 }
 
 /// 13, then 18.

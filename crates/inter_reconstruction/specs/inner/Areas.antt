@@ -1,5 +1,5 @@
 -- Where a macroblock's part lies, by the struct of the code (src/area.rt). For private contracts alone.
-use Rattle.std.specs.Prelude.{◌≡◌, ℕ, ◌*◌}
+use Rattle.std.specs.Prelude.{◌≡◌, ℕ}
 use Rattle.pmv.specs.declared.kinds.ChromaFormat.{ChromaFormat}
 use Rattle.inter_reconstruction.specs.Components.{ColourComponent, block_width, block_height}
 use Rattle.inter_reconstruction.specs.Macroblock.{first_column, first_row}

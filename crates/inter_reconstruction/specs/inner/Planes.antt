@@ -1,5 +1,5 @@
 -- What the functions on all three planes ask, and what they give. For private contracts alone.
-use Rattle.std.specs.Prelude.{◌≡◌, not, List, ℕ, ◌≤◌, eqb, Option, Some}
+use Rattle.std.specs.Prelude.{◌≡◌, not, List, ℕ, ◌≤◌, eqb, Option}
 use Rattle.combine_predictions.specs.Refusals.{cause, or_else}
 use Rattle.combine_predictions.specs.declared.PredictionDirection.{PredictionDirection}
 use Rattle.forming_predictions.specs.Means.{rounded}
@@ -7,13 +7,12 @@ use Rattle.pmv.specs.declared.kinds.ChromaFormat.{ChromaFormat}
 use Rattle.inter_reconstruction.specs.Components.{ColourComponent, luma, cb, cr, block_bytes, macroblock_bytes}
 use Rattle.inter_reconstruction.specs.Frames.{Samples, PlaneReading, plane_of}
 use Rattle.inter_reconstruction.specs.Motion.{chroma_motion}
-use Rattle.inter_reconstruction.specs.Macroblock.{direction_sample, used_sample, rectangle, part, macroblock}
-use Rattle.inter_reconstruction.specs.Refusals.{cell_refusal, geometry_refusal, planes_refusal}
+use Rattle.inter_reconstruction.specs.Macroblock.{direction_sample, part, macroblock}
+use Rattle.inter_reconstruction.specs.Refusals.{cell_refusal}
 use Rattle.inter_reconstruction.specs.inner.Blocks.{PlaneFits}
 use Rattle.inter_reconstruction.specs.declared.frames.FrameGeometry.{FrameGeometry}
 use Rattle.inter_reconstruction.specs.declared.frames.FrameSides.{FrameSides}
 use Rattle.inter_reconstruction.specs.declared.motion.DirectionMotion.{DirectionMotion}
-use Rattle.inter_reconstruction.specs.declared.motion.Uses.{Uses}
 use Rattle.inter_reconstruction.specs.declared.macroblock.PredictionRefusal.{PredictionRefusal}
 use Rattle.inter_reconstruction.specs.declared.macroblock.PredictionRefusal.TheVariants.{ForwardMissing, BackwardMissing, WrongLength}
 
@@ -55,19 +54,6 @@ abbrev pub missing_in : PredictionDirection → PredictionRefusal
 missing_in PredictionDirection.Forward = ForwardMissing
 missing_in PredictionDirection.Backward = BackwardMissing
 missing_in PredictionDirection.Skipped = ForwardMissing
-
--- ---- both directions
-
--- what is refused of one reference that is there, and of two
-abbrev pub frame_refusal : FrameGeometry → FrameSides → (ColourComponent → ℕ) → Option PredictionRefusal
-frame_refusal dest b n = or_else (geometry_refusal dest (Some b)) (planes_refusal (Some b) n)
-
-abbrev pub frames_refusal : FrameGeometry → FrameSides → (ColourComponent → ℕ) → FrameSides → (ColourComponent → ℕ) → Option PredictionRefusal
-frames_refusal dest b n q k =
-    or_else (geometry_refusal dest (Some b))
-    (or_else (geometry_refusal dest (Some q))
-    (or_else (planes_refusal (Some b) n)
-    (planes_refusal (Some q) k)))
 
 -- ---- the destination
 

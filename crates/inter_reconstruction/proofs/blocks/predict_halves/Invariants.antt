@@ -1,5 +1,5 @@
 -- After f turns the first f fields' lines are in place.
-use Rattle.std.proofs.Common.{ℕ, ◌*◌, get_or}
+use Rattle.std.proofs.Common.{ℕ, get_or}
 use Rattle.laws.proofs.Rows.{RowsFilled}
 use Rattle.inter_reconstruction.specs.Frames.{read_plane}
 use Rattle.inter_reconstruction.specs.inner.Blocks.{field_halves}

@@ -1,6 +1,6 @@
 -- The calls write the three components' blocks, from the output's front to its end.
 -- Assumes nothing.
-use Rattle.std.proofs.Common.{◌≡◌, refl, ◌∙◌, sym, ap, ◌+◌, ◌-◌, ◌++◌, length, arith}
+use Rattle.std.proofs.Common.{refl, ◌∙◌, sym, ap, ◌+◌, ◌-◌, length, arith}
 use borrow.Rule.Slice.PartMut.{put_mid}
 use Rattle.laws.proofs.Parts.{part_length}
 use Rattle.inter_reconstruction.specs.Components.{luma, cb, cr}

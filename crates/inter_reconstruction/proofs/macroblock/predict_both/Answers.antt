@@ -1,6 +1,36 @@
--- Both references are there, and what is refused of them is what is refused of the frames.
+-- Both references are there, their geometries are the destination's, and the tests say that both frames' planes are in the domain.
 -- Assumes nothing.
+use Rattle.std.proofs.Common.{◌∙◌, sym}
+use Rattle.inter_reconstruction.specs.Frames.{sides_of, samples_in}
+use Rattle.inter_reconstruction.proofs.Checks.{frame_fits, is_there}
 use Rattle.inter_reconstruction.proofs.macroblock.predict_both.Goals as goal
 
-pub returns-in-Some-backward-clause-answer : goal.returns-in-Some-backward-clause-answer
-returns-in-Some-backward-clause-answer c = rw (c.in-Some.is, c.in-Some-backward.is) c.predict_with_two.ensures.answer
+pub predict_from_two-requires : goal.predict_from_two-requires
+predict_from_two-requires c =
+    let f = c.in_ok-first.first in
+    let b = c.in_ok-second.second in (
+      frame_fits (sides_of f) (samples_in f) (sym c.frame_fits.ensures ∙ c.if-not-frame_fits.false),
+      frame_fits (sides_of b) (samples_in b) (sym c.frame_fits-2.ensures ∙ c.if-not-frame_fits-2.false),
+      c.requires,
+    )
+
+pub returns-then-not-frame_fits-clause-answer : goal.returns-then-not-frame_fits-clause-answer
+returns-then-not-frame_fits-clause-answer c =
+    rw (
+      is_there _ _ c.in_ok-first.ensures.value,
+      is_there _ _ c.in_ok-second.ensures.value,
+      sym c.same_geometry.ensures ∙ c.if-not-same_geometry.false,
+      sym c.same_geometry-2.ensures ∙ c.if-not-same_geometry-2.false,
+      sym c.frame_fits.ensures ∙ c.if-not-frame_fits.true,
+    )
+
+pub returns-clause-answer : goal.returns-clause-answer
+returns-clause-answer c =
+    rw (
+      is_there _ _ c.in_ok-first.ensures.value,
+      is_there _ _ c.in_ok-second.ensures.value,
+      sym c.same_geometry.ensures ∙ c.if-not-same_geometry.false,
+      sym c.same_geometry-2.ensures ∙ c.if-not-same_geometry-2.false,
+      sym c.frame_fits.ensures ∙ c.if-not-frame_fits.false,
+      sym c.frame_fits-2.ensures ∙ c.if-not-frame_fits-2.false,
+    )

@@ -1,6 +1,6 @@
 -- Each component's part lies in its plane and is placed there; the parts of all three together are the macroblock.
 -- Assumes nothing.
-use Rattle.std.proofs.Common.{◌≡◌, refl, ◌∙◌, ℕ, ◌+◌, ◌*◌, ◌≤◌, length, arith}
+use Rattle.std.proofs.Common.{◌≡◌, refl, ◌∙◌, ℕ, ◌+◌, ◌*◌, length, arith}
 use Rattle.laws.proofs.Parts.{part_length}
 use Rattle.inter_reconstruction.specs.declared.frames.FrameSides.{FrameSides}
 use Rattle.inter_reconstruction.specs.Components.{ColourComponent, luma, cb, cr}
