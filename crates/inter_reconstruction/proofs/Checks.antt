@@ -1,12 +1,14 @@
 -- What the tests of the calls say.
 -- Assumes nothing.
-use mathlib.Core.Path.{◌≡◌, refl}
+use mathlib.Core.Path.{◌≡◌, refl, sym, ◌∙◌}
 use mathlib.Core.Bool.{Bool, true, false, ◌&&◌, ◌||◌}
 use Prim.Native.Nat.{ℕ, ◌+◌, ◌*◌}
 use native.Mathlib.Omega.{arith}
 use lib.ListN.{length}
 use Rattle.laws.proofs.Tests.{both}
 use Rattle.std.specs.Prelude.{Option, Some, None, Ok, ok_or}
+use Rattle.std.specs.Option.{option_copied}
+use Rattle.std.proofs.Common.{Bor}
 use Rattle.forming_predictions.specs.Means.{rounded}
 use Rattle.forming_predictions.specs.Refusals.{plane_fits}
 use Rattle.pmv.specs.declared.kinds.ChromaFormat.{ChromaFormat}
@@ -24,9 +26,9 @@ neither true y e = let z : ◌≡◌ {A = ℕ} 0 1 = cc in absurd (omega arith)
 neither false y e = (refl, e)
 
 -- what `?` goes on with was there
-pub is_there : {A E : Type 0} (o : Option A) (e : E) {x : A} → Ok x ≡ ok_or o e → o ≡ Some x
-is_there None e p = absurd cc
-is_there (Some y) e p = cc
+pub is_there : {A E : Type 0} (o : Option (Bor A)) (r : Option A) (e : E) {x : Bor A} → option_copied o ≡ r → Ok x ≡ ok_or o e → r ≡ Some x.now
+is_there None r e c p = absurd cc
+is_there (Some y) r e c p = sym c ∙ cc
 
 -- every plane fits
 abbrev plane_fits_lem : FrameSides → Samples → ColourComponent → Bool

@@ -104,18 +104,18 @@ fn predict_alone(
     ensures answer { result ≡ answered (one_refusal (missing_in direction) dest (reference_sides reference.entry) (reference_lengths reference.entry)) tt }
     ensures buffer { out.new ≡ unless_refused (result_err result) (directed dest.chroma_format (reference_reading reference.entry) motion mb_col mb_row) out.old }
 {
-    let frame = reference.ok_or(missing_in(direction))?;
+    let frame = reference.as_ref().ok_or(missing_in(direction))?;
     if !same_geometry(frame.geometry, dest) {
         return Err(PredictionRefusal::OtherGeometry);
     }
-    if !frame_fits(&frame) {
+    if !frame_fits(frame) {
         return Err(PredictionRefusal::OutsideDomain);
     }
     predict_from_one(
         direction,
         motion,
         dest.chroma_format,
-        &frame,
+        frame,
         mb_col,
         mb_row,
         out,
@@ -140,26 +140,26 @@ fn predict_both(
     ensures buffer { let prediction = prediction_from dest.chroma_format forward.entry backward.entry (Both forward_motion backward_motion) mb_col mb_row in
         out.new ≡ unless_refused (result_err result) prediction out.old }
 {
-    let first = forward.ok_or(PredictionRefusal::ForwardMissing)?;
-    let second = backward.ok_or(PredictionRefusal::BackwardMissing)?;
+    let first = forward.as_ref().ok_or(PredictionRefusal::ForwardMissing)?;
+    let second = backward.as_ref().ok_or(PredictionRefusal::BackwardMissing)?;
     if !same_geometry(first.geometry, dest) {
         return Err(PredictionRefusal::OtherGeometry);
     }
     if !same_geometry(second.geometry, dest) {
         return Err(PredictionRefusal::OtherGeometry);
     }
-    if !frame_fits(&first) {
+    if !frame_fits(first) {
         return Err(PredictionRefusal::OutsideDomain);
     }
-    if !frame_fits(&second) {
+    if !frame_fits(second) {
         return Err(PredictionRefusal::OutsideDomain);
     }
     predict_from_two(
         forward_motion,
         backward_motion,
         dest.chroma_format,
-        &first,
-        &second,
+        first,
+        second,
         mb_col,
         mb_row,
         out,

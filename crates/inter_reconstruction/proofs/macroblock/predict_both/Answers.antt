@@ -9,16 +9,16 @@ pub predict_from_two-requires : goal.predict_from_two-requires
 predict_from_two-requires c =
     let f = c.in_ok-first.first in
     let b = c.in_ok-second.second in (
-      frame_fits (sides_of f) (samples_in f) (sym c.frame_fits.ensures ∙ c.if-not-frame_fits.false),
-      frame_fits (sides_of b) (samples_in b) (sym c.frame_fits-2.ensures ∙ c.if-not-frame_fits-2.false),
+      frame_fits (sides_of f.now) (samples_in f.now) (sym c.frame_fits.ensures ∙ c.if-not-frame_fits.false),
+      frame_fits (sides_of b.now) (samples_in b.now) (sym c.frame_fits-2.ensures ∙ c.if-not-frame_fits-2.false),
       c.requires,
     )
 
 pub returns-then-not-frame_fits-clause-answer : goal.returns-then-not-frame_fits-clause-answer
 returns-then-not-frame_fits-clause-answer c =
     rw (
-      is_there _ _ c.in_ok-first.ensures.value,
-      is_there _ _ c.in_ok-second.ensures.value,
+      is_there _ _ _ c.as_ref.ensures.value c.in_ok-first.ensures.value,
+      is_there _ _ _ c.as_ref-2.ensures.value c.in_ok-second.ensures.value,
       sym c.same_geometry.ensures ∙ c.if-not-same_geometry.false,
       sym c.same_geometry-2.ensures ∙ c.if-not-same_geometry-2.false,
       sym c.frame_fits.ensures ∙ c.if-not-frame_fits.true,
@@ -27,8 +27,8 @@ returns-then-not-frame_fits-clause-answer c =
 pub returns-clause-answer : goal.returns-clause-answer
 returns-clause-answer c =
     rw (
-      is_there _ _ c.in_ok-first.ensures.value,
-      is_there _ _ c.in_ok-second.ensures.value,
+      is_there _ _ _ c.as_ref.ensures.value c.in_ok-first.ensures.value,
+      is_there _ _ _ c.as_ref-2.ensures.value c.in_ok-second.ensures.value,
       sym c.same_geometry.ensures ∙ c.if-not-same_geometry.false,
       sym c.same_geometry-2.ensures ∙ c.if-not-same_geometry-2.false,
       sym c.frame_fits.ensures ∙ c.if-not-frame_fits.false,
