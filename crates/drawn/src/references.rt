@@ -7,21 +7,21 @@ ghost use Rattle.drawn.specs.Draws.{number_after};
 ghost use Rattle.drawn.specs.Fields.{third_end, ExtentAt, DrawnFrom, PlanesAt, IsEmpty, AreEmpty};
 
 use crate::draws::Draws;
-use forming_predictions::ReferencePlane;
+use forming_predictions::PlaneSides;
 use lists::{Cursor, Unread};
 use std::alloc::{AllocError, Global};
 
 /// The sides of a plane, and how many samples it has, which need not be as many as the sides say.
 #[derive(Clone, Copy, Debug, PartialEq, Eq)]
 pub struct Extent {
-    pub sides: ReferencePlane,
+    pub sides: PlaneSides,
     pub length: usize,
 }
 
 /// The sides of a plane and its samples.
 #[derive(Drop)]
 pub struct Plane {
-    pub sides: ReferencePlane,
+    pub sides: PlaneSides,
     pub samples: Vec<u8>,
 }
 
@@ -45,7 +45,7 @@ impl Extent {
         ensures few { IfOk result (λ extent. extent.length ≤ most) }
         ensures moved { IfOk result (λ _. MovesTo case.old case.new (third_end case.old.text.now case.old.at)) }
     {
-        let sides = ReferencePlane {
+        let sides = PlaneSides {
             width: case.number()?,
             height: case.number()?,
         };
@@ -62,7 +62,7 @@ impl Plane {
         ensures { IsEmpty result }
     {
         Plane {
-            sides: ReferencePlane {
+            sides: PlaneSides {
                 width: 0,
                 height: 0,
             },

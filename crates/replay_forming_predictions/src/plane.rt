@@ -1,5 +1,5 @@
 //! The plane that cases read.
-use forming_predictions::ReferencePlane;
+use forming_predictions::{PlaneSides, ReferencePlane};
 use lists::{Cursor, Unread};
 use std::alloc::Global;
 
@@ -9,13 +9,22 @@ const MOST: usize = 32768;
 /// The sides of a plane and its samples, of which there need not be as many as the sides say.
 #[derive(Drop)]
 pub(crate) struct Plane {
-    pub(crate) sides: ReferencePlane,
+    pub(crate) sides: PlaneSides,
     pub(crate) samples: Vec<u8>,
+}
+
+impl Plane {
+    pub(crate) fn lent(&self) -> ReferencePlane<'_> {
+        ReferencePlane {
+            sides: self.sides,
+            samples: &self.samples,
+        }
+    }
 }
 
 pub(crate) fn empty(alloc: Global) -> Plane {
     Plane {
-        sides: ReferencePlane {
+        sides: PlaneSides {
             width: 0,
             height: 0,
         },
@@ -23,8 +32,8 @@ pub(crate) fn empty(alloc: Global) -> Plane {
     }
 }
 
-fn sides(case: &mut Cursor<'_>) -> Result<ReferencePlane, Unread> {
-    Ok(ReferencePlane {
+fn sides(case: &mut Cursor<'_>) -> Result<PlaneSides, Unread> {
+    Ok(PlaneSides {
         width: case.number()?,
         height: case.number()?,
     })

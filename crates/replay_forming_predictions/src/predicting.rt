@@ -1,20 +1,22 @@
 //! Samples and blocks of a plane.
 use crate::plane::Plane;
-use forming_predictions::{BlockSize, FieldParity, FieldReference, ReferencePlane};
+use forming_predictions::{
+    BlockSize, FieldParity, FieldReference, ReferencePlane, predict_block, predict_sample,
+};
 use lists::{Cursor, Unread};
 use std::alloc::Global;
 use tally::{LONGEST, Lent, number_and_value, number_of};
 
 /// What is read: the whole frame, or a field of it.
 #[derive(Clone, Copy)]
-enum Source {
-    Frame(ReferencePlane),
-    Field(FieldReference),
+enum Source<'a> {
+    Frame(ReferencePlane<'a>),
+    Field(FieldReference<'a>),
 }
 
 /// The source with a number: 0 is the top field, 1 the bottom field, 2 the frame.
-fn read_source(plane: &Plane, case: &mut Cursor<'_>) -> Result<Source, Unread> {
-    let plane = plane.sides;
+fn read_source<'a>(plane: &'a Plane, case: &mut Cursor<'_>) -> Result<Source<'a>, Unread> {
+    let plane = plane.lent();
     match case.integer()? {
         0 => Ok(Source::Field(FieldReference {
             plane,
@@ -35,10 +37,9 @@ pub(crate) fn sample(plane: &Plane, case: &mut Cursor<'_>) -> Result<bool, Unrea
     let x = case.number()?;
     let y = case.number()?;
     let listed = (case.integer()?, case.integer()?);
-    let samples = plane.samples.as_slice();
     let given = match source {
-        Source::Frame(plane) => plane.sample(samples, x, y),
-        Source::Field(field) => field.sample(samples, x, y),
+        Source::Frame(plane) => plane.sample(x, y),
+        Source::Field(field) => field.sample(x, y),
     };
     Ok(number_and_value(given.map(i64::from), 0) == listed)
 }
@@ -51,14 +52,9 @@ pub(crate) fn predicted_sample(plane: &Plane, case: &mut Cursor<'_>) -> Result<b
     let horizontal = case.number()?;
     let vertical = case.number()?;
     let listed = (case.integer()?, case.integer()?);
-    let samples = plane.samples.as_slice();
     let given = match source {
-        Source::Frame(plane) => {
-            forming_predictions::predict_sample(plane, samples, x, y, horizontal, vertical)
-        }
-        Source::Field(field) => {
-            forming_predictions::predict_field_sample(field, samples, x, y, horizontal, vertical)
-        }
+        Source::Frame(plane) => predict_sample(plane, x, y, horizontal, vertical),
+        Source::Field(field) => predict_sample(field, x, y, horizontal, vertical),
     };
     Ok(number_and_value(given.map(i64::from), 0) == listed)
 }
@@ -78,15 +74,10 @@ pub(crate) fn block(alloc: Global, plane: &Plane, case: &mut Cursor<'_>) -> Resu
     let mut room = Lent::filled(alloc, case)?;
     let answer = case.integer()?;
     let after = case.bytes(alloc, LONGEST)?;
-    let samples = plane.samples.as_slice();
     let out = room.lent();
     let given = match source {
-        Source::Frame(plane) => forming_predictions::predict_block(
-            plane, samples, x, y, size, horizontal, vertical, out,
-        ),
-        Source::Field(field) => forming_predictions::predict_field_block(
-            field, samples, x, y, size, horizontal, vertical, out,
-        ),
+        Source::Frame(plane) => predict_block(plane, x, y, size, horizontal, vertical, out),
+        Source::Field(field) => predict_block(field, x, y, size, horizontal, vertical, out),
     };
     Ok(number_of(given) == answer && room.holds(&after))
 }

@@ -1,5 +1,5 @@
 //! Vectors and patterns.
-use forming_predictions::{FieldParity, FieldReference, HalfPattern, ReferencePlane};
+use forming_predictions::{FieldParity, FieldReference, HalfPattern, PlaneSides, ReferencePlane};
 use lists::{Cursor, Unread};
 
 /// The number of a pattern. Its enum has the order of the original's.
@@ -50,8 +50,11 @@ pub(crate) fn pattern(case: &mut Cursor<'_>) -> Result<bool, Unread> {
 /// `4 HEIGHT TOP BOTTOM`, from HEIGHT on.
 pub(crate) fn field_heights(case: &mut Cursor<'_>) -> Result<bool, Unread> {
     let plane = ReferencePlane {
-        width: 0,
-        height: case.number()?,
+        sides: PlaneSides {
+            width: 0,
+            height: case.number()?,
+        },
+        samples: &[],
     };
     let top = case.number::<usize>()?;
     let bottom = case.number::<usize>()?;

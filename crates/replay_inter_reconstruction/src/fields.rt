@@ -1,7 +1,7 @@
 //! The fields of a line that have a meaning together.
+use forming_predictions::FieldParity;
 use inter_reconstruction::motion::{FieldVector, FieldVectorPair, MotionVectorPel};
 use lists::{Cursor, Unread};
-use pmv::kinds::parity_from_number;
 
 /// `HORIZONTAL VERTICAL`.
 fn vector(case: &mut Cursor<'_>) -> Result<MotionVectorPel, Unread> {
@@ -15,7 +15,9 @@ fn vector(case: &mut Cursor<'_>) -> Result<MotionVectorPel, Unread> {
 fn field_vector(case: &mut Cursor<'_>) -> Result<FieldVector, Unread> {
     Ok(FieldVector {
         vector: vector(case)?,
-        reference_field: parity_from_number(case.number()?).map_err(|_| Unread::Malformed)?,
+        reference_field: FieldParity::try_from(case.number::<u32>()?).map_err(
+            |_| Unread::Malformed,
+        )?,
     })
 }
 

@@ -1,5 +1,6 @@
 //! Predicting a macroblock.
-use drawn::{Planes, References};
+use drawn::{Plane, Planes, References};
+use forming_predictions::ReferencePlane;
 use inter_reconstruction::frames::FrameBuffer;
 use inter_reconstruction::macroblock::predict_macroblock_planes;
 use inter_reconstruction::motion::{DirectionVectors, Motion, UsedDirections};
@@ -7,16 +8,26 @@ use lists::{Cursor, Unread};
 use std::alloc::Global;
 use tally::{LONGEST, Lent, number_and_value};
 
+fn lent(plane: &Plane) -> ReferencePlane<'_> {
+    ReferencePlane {
+        sides: plane.sides,
+        samples: &plane.samples,
+    }
+}
+
 /// `PRESENT WIDTH HEIGHT CHROMA`: a reference with these planes.
-fn reference(case: &mut Cursor<'_>, planes: &Planes) -> Result<Option<FrameBuffer>, Unread> {
+fn reference<'a>(
+    case: &mut Cursor<'_>,
+    planes: &'a Planes,
+) -> Result<Option<FrameBuffer<'a>>, Unread> {
     if !case.present(3)? {
         return Ok(None);
     }
     Ok(Some(FrameBuffer {
         geometry: drawn::geometry(case)?,
-        y: planes.y.sides,
-        cb: planes.cb.sides,
-        cr: planes.cr.sides,
+        y: lent(&planes.y),
+        cb: lent(&planes.cb),
+        cr: lent(&planes.cr),
     }))
 }
 
@@ -39,11 +50,9 @@ pub(crate) fn macroblock<V: DirectionVectors, R: Fn(&mut Cursor<'_>) -> Result<O
 ) -> Result<bool, Unread>
     requires { R.IsAlwaysCallable direction }
 {
-    let forward_planes = &references.forward;
-    let backward_planes = &references.backward;
     let dest = drawn::geometry(case)?;
-    let forward = reference(case, forward_planes)?;
-    let backward = reference(case, backward_planes)?;
+    let forward = reference(case, &references.forward)?;
+    let backward = reference(case, &references.backward)?;
     let mb_col = case.number()?;
     let mb_row = case.number()?;
     let motion = Motion {
@@ -56,13 +65,7 @@ pub(crate) fn macroblock<V: DirectionVectors, R: Fn(&mut Cursor<'_>) -> Result<O
     let given = predict_macroblock_planes(
         dest,
         forward,
-        &forward_planes.y.samples,
-        &forward_planes.cb.samples,
-        &forward_planes.cr.samples,
         backward,
-        &backward_planes.y.samples,
-        &backward_planes.cb.samples,
-        &backward_planes.cr.samples,
         mb_col,
         mb_row,
         motion,

@@ -1,6 +1,6 @@
 //! Placing a macroblock in planes that are drawn.
 use drawn::{Draws, Extent};
-use inter_reconstruction::frames::FrameBuffer;
+use inter_reconstruction::frames::FrameSides;
 use inter_reconstruction::placing::place_macroblock;
 use lists::{Cursor, Unread};
 use std::alloc::Global;
@@ -45,7 +45,7 @@ pub(crate) fn macroblock(alloc: Global, case: &mut Cursor<'_>) -> Result<bool, U
     let mut cb_room = draws.bytes(alloc, cb.length + BEHIND)?;
     let mut cr_room = draws.bytes(alloc, cr.length + BEHIND)?;
     let given = place_macroblock(
-        FrameBuffer {
+        FrameSides {
             geometry,
             y: y.sides,
             cb: cb.sides,

@@ -1,10 +1,10 @@
 //! A step by the calls that predict and place.
 use crate::outcomes::Refusal;
 use crate::pictures;
-use crate::pictures::{Component, Picture};
+use crate::pictures::Picture;
 use crate::steps::Step;
-use forming_predictions::ReferencePlane;
-use inter_reconstruction::frames::{FrameBuffer, FrameGeometry};
+use forming_predictions::{PlaneSides, ReferencePlane};
+use inter_reconstruction::frames::{FrameBuffer, FrameGeometry, FrameSides};
 use inter_reconstruction::macroblock::{Accepted, PredictionRefusal, predict_macroblock_planes};
 use inter_reconstruction::motion::{DirectionVectors, Motion};
 use inter_reconstruction::placing::place_macroblock;
@@ -16,15 +16,15 @@ const GEOMETRY: FrameGeometry = FrameGeometry {
     chroma_format: ChromaFormat::Yuv420,
 };
 
-const CHROMINANCE: ReferencePlane = ReferencePlane {
+const CHROMINANCE: PlaneSides = PlaneSides {
     width: 24,
     height: 24,
 };
 
 /// What every picture declares.
-const FRAME: FrameBuffer = FrameBuffer {
+const FRAME: FrameSides = FrameSides {
     geometry: GEOMETRY,
-    y: ReferencePlane {
+    y: PlaneSides {
         width: 48,
         height: 48,
     },
@@ -32,11 +32,22 @@ const FRAME: FrameBuffer = FrameBuffer {
     cr: CHROMINANCE,
 };
 
-/// A plane of a reference, empty where that is absent.
-fn bytes(reference: Option<&Picture<u8>>, component: Component) -> &[u8] {
-    match reference {
-        Some(picture) => picture.plane(component),
-        None => &[],
+/// A picture as it is read.
+fn reference(picture: &Picture<u8>) -> FrameBuffer<'_> {
+    FrameBuffer {
+        geometry: GEOMETRY,
+        y: ReferencePlane {
+            sides: FRAME.y,
+            samples: &picture.y,
+        },
+        cb: ReferencePlane {
+            sides: FRAME.cb,
+            samples: &picture.cb,
+        },
+        cr: ReferencePlane {
+            sides: FRAME.cr,
+            samples: &picture.cr,
+        },
     }
 }
 
@@ -46,18 +57,10 @@ fn predict<V: DirectionVectors>(
     motion: Motion<V>,
     out: &mut [u8],
 ) -> Result<Accepted, PredictionRefusal> {
-    let forward = step.forward.picture(below);
-    let backward = step.backward.picture(below);
     predict_macroblock_planes(
         GEOMETRY,
-        forward.map(|_| FRAME),
-        bytes(forward, Component::Y),
-        bytes(forward, Component::Cb),
-        bytes(forward, Component::Cr),
-        backward.map(|_| FRAME),
-        bytes(backward, Component::Y),
-        bytes(backward, Component::Cb),
-        bytes(backward, Component::Cr),
+        step.forward.picture(below).map(reference),
+        step.backward.picture(below).map(reference),
         usize::from(step.column),
         usize::from(step.row),
         motion,
