@@ -3,6 +3,7 @@
 use Rattle.std.specs.Prelude.{List, [], ℕ, ℤ, length, Option, Some, None}
 use Rattle.forming_predictions.specs.Lines.{Lines, sample_at}
 use Rattle.forming_predictions.specs.declared.PlaneSides.{PlaneSides}
+use Rattle.forming_predictions.specs.declared.ReferencePlane.{ReferencePlane}
 use Rattle.inter_reconstruction.specs.Components.{ColourComponent, luma, cb, cr}
 use Rattle.inter_reconstruction.specs.declared.frames.FrameSides.{FrameSides}
 use Rattle.inter_reconstruction.specs.declared.frames.FrameBuffer.{FrameBuffer}
@@ -41,13 +42,19 @@ abbrev pub read_reference : Option FrameSides → Samples → ColourComponent �
 read_reference None s c = λ (l : Lines) (x y : ℤ). 0
 read_reference (Some b) s c = read_frame b s c
 
--- ---- a frame as a call is given it, with its samples (src/frames.rt)
+-- ---- planes and frames as a call is given them, with their samples (src/frames.rt)
+
+abbrev pub plane_reading : ReferencePlane → PlaneReading
+plane_reading p = read_plane p.sides p.samples.now
 
 abbrev pub sides_of : FrameBuffer → FrameSides
 sides_of b = record { geometry = b.geometry; y = b.y.sides; cb = b.cb.sides; cr = b.cr.sides }
 
 abbrev pub samples_in : FrameBuffer → Samples
 samples_in b = samples_of b.y.samples.now b.cb.samples.now b.cr.samples.now
+
+abbrev pub frame_reading : FrameBuffer → ColourComponent → PlaneReading
+frame_reading b = read_frame (sides_of b) (samples_in b)
 
 -- a reference's, if it is there
 abbrev pub reference_sides : Option FrameBuffer → Option FrameSides

@@ -5,9 +5,9 @@ ghost use Rattle.laws.specs.Tabulate.{tabulate};
 ghost use Rattle.forming_predictions.specs.Means.{rounded};
 ghost use Rattle.inter_reconstruction.specs.declared.motion.DirectionMotion.TheVariants.{Frame, Field};
 ghost use Rattle.inter_reconstruction.specs.declared.motion.Uses.TheVariants.{Both};
-ghost use Rattle.inter_reconstruction.specs.Frames.{read_plane};
+ghost use Rattle.inter_reconstruction.specs.Frames.{plane_reading};
 ghost use Rattle.inter_reconstruction.specs.Macroblock.{field_sample, direction_sample, used_sample, rectangle};
-ghost use Rattle.inter_reconstruction.specs.inner.Blocks.{PlaneFits, FieldRows, field_halves, interleaved_cell, forward_bytes};
+ghost use Rattle.inter_reconstruction.specs.inner.Blocks.{Readable, FieldRows, field_halves, interleaved_cell, forward_bytes};
 
 use crate::area::Area;
 use crate::motion::{DirectionMotion, FieldVector, FieldVectorPair, MotionVectorPel};
@@ -22,8 +22,8 @@ use forming_predictions::{FieldReference, ReferencePlane, predict_block};
 
 /// A block of the frame's rows.
 fn predict_rows(plane: ReferencePlane<'_>, at: Area, v: MotionVectorPel, out: &mut [u8])
-    requires { PlaneFits plane.sides plane.samples.now × (length out.old ≡ at.width * at.height) }
-    ensures { out.new ≡ rectangle at.width at.height (direction_sample rounded (read_plane plane.entry.sides plane.entry.samples.now) (Frame v)) at.x at.y }
+    requires { Readable plane × (length out.old ≡ at.width * at.height) }
+    ensures { out.new ≡ rectangle at.width at.height (direction_sample rounded (plane_reading plane.entry) (Frame v)) at.x at.y }
 {
     let _ = predict_block(
         plane,
@@ -38,8 +38,8 @@ fn predict_rows(plane: ReferencePlane<'_>, at: Area, v: MotionVectorPel, out: &m
 
 /// A block of a field's lines.
 fn predict_lines(plane: ReferencePlane<'_>, at: Area, u: FieldVector, out: &mut [u8])
-    requires { PlaneFits plane.sides plane.samples.now × (length out.old ≡ at.width * at.height) }
-    ensures { out.new ≡ rectangle at.width at.height (field_sample rounded (read_plane plane.entry.sides plane.entry.samples.now) u) at.x at.y }
+    requires { Readable plane × (length out.old ≡ at.width * at.height) }
+    ensures { out.new ≡ rectangle at.width at.height (field_sample rounded (plane_reading plane.entry) u) at.x at.y }
 {
     let v = u.vector;
     let reference_field = u.reference_field;
@@ -87,8 +87,8 @@ fn interleave(halves: &[u8], width: usize, half: usize, out: &mut [u8])
 /// Both fields' lines, one block after the other. As there is one call for both, it is inlined, and what is the same for both fields is tested
 /// once.
 fn predict_halves(plane: ReferencePlane<'_>, at: Area, pair: FieldVectorPair, out: &mut [u8])
-    requires { PlaneFits plane.sides plane.samples.now × (length out.old ≡ at.width * at.height + at.width * at.height) }
-    ensures { out.new ≡ field_halves (read_plane plane.entry.sides plane.entry.samples.now) pair at.width at.height at.x at.y }
+    requires { Readable plane × (length out.old ≡ at.width * at.height + at.width * at.height) }
+    ensures { out.new ≡ field_halves (plane_reading plane.entry) pair at.width at.height at.x at.y }
 {
     let n = at.bytes();
     for (f, &u) in [pair.top, pair.bottom].iter().enumerate() {
@@ -100,8 +100,8 @@ fn predict_halves(plane: ReferencePlane<'_>, at: Area, pair: FieldVectorPair, ou
 
 /// The block of a direction whose fields have vectors of their own: each field's lines, then interleaved.
 fn predict_fields(plane: ReferencePlane<'_>, at: Area, pair: FieldVectorPair, out: &mut [u8])
-    requires { PlaneFits plane.sides plane.samples.now × (length out.old ≡ at.width * at.height) × FieldRows at.y at.height }
-    ensures { out.new ≡ rectangle at.width at.height (direction_sample rounded (read_plane plane.entry.sides plane.entry.samples.now) (Field pair)) at.x at.y }
+    requires { Readable plane × (length out.old ≡ at.width * at.height) × FieldRows at.y at.height }
+    ensures { out.new ≡ rectangle at.width at.height (direction_sample rounded (plane_reading plane.entry) (Field pair)) at.x at.y }
 {
     // fixed memory: no heap in the layers, and no block is larger than 256
     let mut halves = [0u8; 256];
@@ -123,8 +123,8 @@ pub(crate) fn predict_direction(
     motion: &DirectionMotion,
     out: &mut [u8],
 )
-    requires { PlaneFits plane.now.sides plane.now.samples.now × (length out.old ≡ at.width * at.height) × FieldRows at.y at.height }
-    ensures { out.new ≡ rectangle at.width at.height (direction_sample rounded (read_plane plane.now.sides plane.now.samples.now) motion.now) at.x at.y }
+    requires { Readable plane.now × (length out.old ≡ at.width * at.height) × FieldRows at.y at.height }
+    ensures { out.new ≡ rectangle at.width at.height (direction_sample rounded (plane_reading plane.now) motion.now) at.x at.y }
 {
     match *motion {
         DirectionMotion::Frame(v) => predict_rows(*plane, at, v, out),
@@ -163,8 +163,8 @@ pub(crate) fn predict_two(
     at: Area,
     out: &mut [u8],
 )
-    requires { PlaneFits forward.now.sides forward.now.samples.now × PlaneFits backward.now.sides backward.now.samples.now × (length out.old ≡ at.width * at.height) × FieldRows at.y at.height }
-    ensures { out.new ≡ rectangle at.width at.height (used_sample rounded (read_plane forward.now.sides forward.now.samples.now) (read_plane backward.now.sides backward.now.samples.now) (Both forward_motion.now backward_motion.now)) at.x at.y }
+    requires { Readable forward.now × Readable backward.now × (length out.old ≡ at.width * at.height) × FieldRows at.y at.height }
+    ensures { out.new ≡ rectangle at.width at.height (used_sample rounded (plane_reading forward.now) (plane_reading backward.now) (Both forward_motion.now backward_motion.now)) at.x at.y }
 {
     // fixed memory, as above
     let mut first = [0u8; 256];

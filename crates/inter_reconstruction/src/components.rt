@@ -3,9 +3,9 @@ ghost use Rattle.std.specs.Prelude.{◌≡◌, ◌++◌, ◌+◌, length};
 ghost use Rattle.forming_predictions.specs.Means.{rounded};
 ghost use Rattle.inter_reconstruction.specs.declared.motion.Uses.TheVariants.{Both};
 ghost use Rattle.inter_reconstruction.specs.Components.{ColourComponent};
-ghost use Rattle.inter_reconstruction.specs.Frames.{read_frame, sides_of, samples_in};
+ghost use Rattle.inter_reconstruction.specs.Frames.{frame_reading};
 ghost use Rattle.inter_reconstruction.specs.Macroblock.{predicted};
-ghost use Rattle.inter_reconstruction.specs.inner.Planes.{FrameFits, CellFits, BlocksFit, directed_part, directed};
+ghost use Rattle.inter_reconstruction.specs.inner.Planes.{AllReadable, CellFits, BlocksFit, directed_part, directed};
 
 use crate::area::Area;
 use crate::blocks::{predict_direction, predict_two, store_chosen};
@@ -27,10 +27,10 @@ fn predict_blocks(
     cb_block: &mut [u8],
     cr_block: &mut [u8],
 )
-    requires { FrameFits (sides_of frame.now) (samples_in frame.now) × BlocksFit chroma_format mb_col mb_row (length y_block.old) (length cb_block.old) (length cr_block.old) }
-    ensures y_block_at_exit { y_block.new ≡ directed_part chroma_format (read_frame (sides_of frame.now) (samples_in frame.now)) motion ColourComponent.luma mb_col mb_row }
-    ensures cb_block_at_exit { cb_block.new ≡ directed_part chroma_format (read_frame (sides_of frame.now) (samples_in frame.now)) motion ColourComponent.cb mb_col mb_row }
-    ensures cr_block_at_exit { cr_block.new ≡ directed_part chroma_format (read_frame (sides_of frame.now) (samples_in frame.now)) motion ColourComponent.cr mb_col mb_row }
+    requires { AllReadable frame.now × BlocksFit chroma_format mb_col mb_row (length y_block.old) (length cb_block.old) (length cr_block.old) }
+    ensures y_block_at_exit { y_block.new ≡ directed_part chroma_format (frame_reading frame.now) motion ColourComponent.luma mb_col mb_row }
+    ensures cb_block_at_exit { cb_block.new ≡ directed_part chroma_format (frame_reading frame.now) motion ColourComponent.cb mb_col mb_row }
+    ensures cr_block_at_exit { cr_block.new ≡ directed_part chroma_format (frame_reading frame.now) motion ColourComponent.cr mb_col mb_row }
 {
     let luma_at = Area::luma(mb_col, mb_row);
     let chroma_at = Area::chroma(chroma_format, mb_col, mb_row);
@@ -64,8 +64,8 @@ pub(crate) fn predict_from_one(
     mb_row: usize,
     out: &mut [u8],
 )
-    requires { FrameFits (sides_of frame.now) (samples_in frame.now) × CellFits chroma_format mb_col mb_row (length out.old) }
-    ensures { out.new ≡ directed chroma_format (read_frame (sides_of frame.now) (samples_in frame.now)) motion mb_col mb_row }
+    requires { AllReadable frame.now × CellFits chroma_format mb_col mb_row (length out.old) }
+    ensures { out.new ≡ directed chroma_format (frame_reading frame.now) motion mb_col mb_row }
 {
     let size = chroma_mb_extent(chroma_format);
     let n = size.width * size.height;
@@ -99,9 +99,9 @@ pub(crate) fn predict_from_two(
     mb_row: usize,
     out: &mut [u8],
 )
-    requires { FrameFits (sides_of forward.now) (samples_in forward.now) × FrameFits (sides_of backward.now) (samples_in backward.now) × CellFits chroma_format mb_col mb_row (length out.old) }
-    ensures { let forward_read = read_frame (sides_of forward.now) (samples_in forward.now) in
-        let backward_read = read_frame (sides_of backward.now) (samples_in backward.now) in
+    requires { AllReadable forward.now × AllReadable backward.now × CellFits chroma_format mb_col mb_row (length out.old) }
+    ensures { let forward_read = frame_reading forward.now in
+        let backward_read = frame_reading backward.now in
         out.new ≡ predicted rounded chroma_format forward_read backward_read (Both forward_motion backward_motion) mb_col mb_row }
 {
     let luma_at = Area::luma(mb_col, mb_row);

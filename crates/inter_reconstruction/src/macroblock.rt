@@ -6,7 +6,7 @@ ghost use Rattle.forming_predictions.specs.Means.{rounded};
 ghost use Rattle.inter_reconstruction.specs.declared.motion.Uses.TheVariants.{Both};
 ghost use Rattle.inter_reconstruction.specs.declared.macroblock.PredictionRefusal.TheVariants.{BackwardMissing};
 ghost use Rattle.inter_reconstruction.specs.Motion.{wanted_by, uses_by, BackwardAlone};
-ghost use Rattle.inter_reconstruction.specs.Frames.{samples_of, lengths_of, read_frame, sides_of, samples_in, reference_sides, reference_lengths, reference_reading};
+ghost use Rattle.inter_reconstruction.specs.Frames.{samples_of, lengths_of, sides_of, samples_in, reference_sides, reference_lengths, reference_reading};
 ghost use Rattle.inter_reconstruction.specs.Macroblock.{predicted};
 ghost use Rattle.inter_reconstruction.specs.Refusals.{prediction_number, same_geometry, planes_fit, one_refusal, references_refusal, prediction_refusal};
 ghost use Rattle.inter_reconstruction.specs.Answers.{accepted, directions_of, prediction_directions, refusal_among, refusal_from, prediction_from};
@@ -242,9 +242,9 @@ fn predict_used(
     }
 }
 
-/// Writes the prediction of a macroblock, frame-based or field-based by its vectors: luminance, then Cb, then Cr, each row after row. Nothing is written by a refusal: of a
-/// cell that is too far, of an output of the wrong length, of a reference that is used and absent, of another geometry than the
-/// destination's, of a plane that is outside the domain.
+/// Writes the prediction of a macroblock, frame-based or field-based by its vectors: luminance, then Cb, then Cr, each row after row. Nothing is
+/// written by a refusal: of a cell that is too far, of an output of the wrong length, of a reference that is used and absent, of another
+/// geometry than the destination's, of a plane that is outside the domain.
 pub fn predict_macroblock_planes<V: DirectionVectors>(
     dest: FrameGeometry,
     forward: Option<FrameBuffer<'_>>,

@@ -5,6 +5,7 @@ use Rattle.combine_predictions.specs.declared.PredictionDirection.{PredictionDir
 use Rattle.combine_predictions.specs.declared.PredictionDirection.TheVariants.{Forward, Backward, Skipped}
 use Rattle.forming_predictions.specs.Refusals.{plane_fits}
 use Rattle.forming_predictions.specs.declared.PlaneSides.{PlaneSides}
+use Rattle.forming_predictions.specs.declared.ReferencePlane.{ReferencePlane}
 use Rattle.forming_predictions.specs.Means.{rounded}
 use Rattle.inter_reconstruction.specs.declared.motion.FieldVectorPair.{FieldVectorPair}
 use Rattle.inter_reconstruction.specs.Frames.{PlaneReading}
@@ -13,6 +14,10 @@ use Rattle.inter_reconstruction.specs.Macroblock.{field_sample, rectangle}
 -- a plane with its samples is in the domain
 abbrev pub PlaneFits : PlaneSides → List ℕ → Type 0
 PlaneFits p samples = plane_fits p.width p.height (length samples) ≡ true
+
+-- and a plane that holds them
+abbrev pub Readable : ReferencePlane → Type 0
+Readable p = PlaneFits p.sides p.samples.now
 
 -- a block at column x and row y that prediction takes
 pub record AreaFits (x y w h : ℕ) : Type 0 where

@@ -5,13 +5,14 @@ use Rattle.combine_predictions.specs.declared.PredictionDirection.{PredictionDir
 use Rattle.forming_predictions.specs.Means.{rounded}
 use Rattle.pmv.specs.declared.kinds.ChromaFormat.{ChromaFormat}
 use Rattle.inter_reconstruction.specs.Components.{ColourComponent, luma, cb, cr, block_bytes, macroblock_bytes}
-use Rattle.inter_reconstruction.specs.Frames.{Samples, PlaneReading, plane_of}
+use Rattle.inter_reconstruction.specs.Frames.{Samples, PlaneReading, plane_of, sides_of, samples_in}
 use Rattle.inter_reconstruction.specs.Motion.{chroma_motion}
 use Rattle.inter_reconstruction.specs.Macroblock.{direction_sample, part, macroblock}
 use Rattle.inter_reconstruction.specs.Refusals.{cell_refusal}
 use Rattle.inter_reconstruction.specs.inner.Blocks.{PlaneFits}
 use Rattle.inter_reconstruction.specs.declared.frames.FrameGeometry.{FrameGeometry}
 use Rattle.inter_reconstruction.specs.declared.frames.FrameSides.{FrameSides}
+use Rattle.inter_reconstruction.specs.declared.frames.FrameBuffer.{FrameBuffer}
 use Rattle.inter_reconstruction.specs.declared.motion.DirectionMotion.{DirectionMotion}
 use Rattle.inter_reconstruction.specs.declared.macroblock.PredictionRefusal.{PredictionRefusal}
 use Rattle.inter_reconstruction.specs.declared.macroblock.PredictionRefusal.TheVariants.{ForwardMissing, BackwardMissing, WrongLength}
@@ -19,6 +20,10 @@ use Rattle.inter_reconstruction.specs.declared.macroblock.PredictionRefusal.TheV
 -- every plane of a frame is in the domain
 abbrev pub FrameFits : FrameSides → Samples → Type 0
 FrameFits b s = (c : ColourComponent) → PlaneFits (plane_of b c) (s c)
+
+-- and of one that holds them
+abbrev pub AllReadable : FrameBuffer → Type 0
+AllReadable b = FrameFits (sides_of b) (samples_in b)
 
 -- a cell that prediction takes, and an output of n bytes for it
 pub record CellFits (f : ChromaFormat) (col row n : ℕ) : Type 0 where
