@@ -16,7 +16,6 @@ use Rattle.inter_reconstruction.specs.Macroblock.{used_sample, rectangle, part, 
 use Rattle.inter_reconstruction.specs.inner.Blocks.{AreaFits, FieldRows, ChromaSides}
 use Rattle.inter_reconstruction.specs.inner.Areas.{PartAt}
 use Rattle.inter_reconstruction.specs.declared.area.Area.{Area}
-use Rattle.inter_reconstruction.specs.inner.Planes.{CellFits, BlocksFit}
 
 -- the chrominance's sides, for all formats
 chroma_sides : (f : ChromaFormat) → ChromaSides (block_width f cb) (block_height f cb)
@@ -28,10 +27,6 @@ chroma_sides Yuv444 = record { wide_lo = omega arith; wide = omega arith; eights
 even_multiple : (r h : ℕ) → h % 2 ≡ 0 → r * h % 2 ≡ 0
 even_multiple zero h e = rw (zero-mul h)
 even_multiple (suc r) h e = let p = even_multiple r h e in omega (arith, suc-mul r h)
-
--- three local blocks are for a cell
-pub cell_of : {f : ChromaFormat} {col row a b r : ℕ} → BlocksFit f col row a b r → CellFits f col row (macroblock_bytes f)
-cell_of h = record { column = h.column; line = h.line; count = refl }
 
 -- ---- the luminance
 pub luma_fits : {col row : ℕ} → col ≤ 1023 → row ≤ 1023 → AreaFits (col * 16) (row * 16) 16 16
@@ -60,8 +55,8 @@ module _ (f : ChromaFormat) {w h : ℕ} (ew : w ≡ block_width f cb) (eh : h �
   pub chroma_rows : (row : ℕ) → FieldRows (row * h) h
   chroma_rows row = record { first = even_multiple row h sides.even; even = sides.even }
 
-  pub chroma_total : {col row n : ℕ} → CellFits f col row n → n ≡ 256 + (w * h + w * h)
-  chroma_total c = rw (ew, eh) c.count
+  pub chroma_total : {n : ℕ} → n ≡ macroblock_bytes f → n ≡ 256 + (w * h + w * h)
+  chroma_total e = rw (ew, eh) e
 
   pub chroma_fits : {col row : ℕ} → col ≤ 1023 → row ≤ 1023 → AreaFits (col * w) (row * h) w h
   chroma_fits p q =

@@ -7,6 +7,14 @@ use crate::frames::chroma_mb_extent;
 use forming_predictions::BlockSize;
 use pmv::kinds::ChromaFormat;
 
+/// The place of a macroblock among those of a picture: its column and its row are 0 to 1,023.
+#[derive(Clone, Copy)]
+pub(crate) struct Cell {
+    pub(crate) mb_col: usize,
+    pub(crate) mb_row: usize,
+    ghost near: { (mb_col ≤ 1023) × (mb_row ≤ 1023) },
+}
+
 /// A block's place in a plane, and its sides. `y` and `height` count rows, or the lines of a field.
 #[derive(Clone, Copy)]
 pub(crate) struct Area {
@@ -18,8 +26,6 @@ pub(crate) struct Area {
 }
 
 impl Area {
-    ghost use Rattle.inter_reconstruction.specs.inner.Areas.{PartAt};
-
     /// How many samples it has.
     pub(crate) fn bytes(self) -> usize
         ensures { result ≡ self.width * self.height }
@@ -36,29 +42,31 @@ impl Area {
             height: self.height,
         }
     }
+}
+
+impl Cell {
+    ghost use Rattle.inter_reconstruction.specs.inner.Areas.{PartAt};
 
     /// The luminance's part.
-    pub(crate) fn luma(mb_col: usize, mb_row: usize) -> Self
-        requires { (mb_col ≤ 1023) × (mb_row ≤ 1023) }
-        ensures { (f : _) → PartAt f luma mb_col mb_row result }
+    pub(crate) fn luma(self) -> Area
+        ensures { (f : _) → PartAt f luma self.mb_col self.mb_row result }
     {
         Area {
-            x: mb_col * 16,
-            y: mb_row * 16,
+            x: self.mb_col * 16,
+            y: self.mb_row * 16,
             width: 16,
             height: 16,
         }
     }
 
     /// Cb's part, and Cr's.
-    pub(crate) fn chroma(chroma_format: ChromaFormat, mb_col: usize, mb_row: usize) -> Self
-        requires { (mb_col ≤ 1023) × (mb_row ≤ 1023) }
-        ensures { PartAt chroma_format cb mb_col mb_row result }
+    pub(crate) fn chroma(self, chroma_format: ChromaFormat) -> Area
+        ensures { PartAt chroma_format cb self.mb_col self.mb_row result }
     {
         let size = chroma_mb_extent(chroma_format);
         Area {
-            x: mb_col * size.width,
-            y: mb_row * size.height,
+            x: self.mb_col * size.width,
+            y: self.mb_row * size.height,
             width: size.width,
             height: size.height,
         }

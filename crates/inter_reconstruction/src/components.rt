@@ -2,12 +2,12 @@
 ghost use Rattle.std.specs.Prelude.{◌≡◌, ◌++◌, ◌+◌, length};
 ghost use Rattle.forming_predictions.specs.Means.{rounded};
 ghost use Rattle.inter_reconstruction.specs.declared.motion.Uses.TheVariants.{Both};
-ghost use Rattle.inter_reconstruction.specs.Components.{ColourComponent};
+ghost use Rattle.inter_reconstruction.specs.Components.{ColourComponent, macroblock_bytes};
 ghost use Rattle.inter_reconstruction.specs.Frames.{frame_reading};
 ghost use Rattle.inter_reconstruction.specs.Macroblock.{predicted};
-ghost use Rattle.inter_reconstruction.specs.inner.Planes.{AllReadable, CellFits, BlocksFit, directed_part, directed};
+ghost use Rattle.inter_reconstruction.specs.inner.Planes.{AllReadable, BlocksFit, directed_part, directed};
 
-use crate::area::Area;
+use crate::area::Cell;
 use crate::blocks::{predict_direction, predict_two, store_chosen};
 use crate::frames::{FrameBuffer, chroma_mb_extent};
 use crate::motion::DirectionMotion;
@@ -21,19 +21,18 @@ fn predict_blocks(
     motion: DirectionMotion,
     chroma_format: ChromaFormat,
     frame: &FrameBuffer<'_>,
-    mb_col: usize,
-    mb_row: usize,
+    cell: Cell,
     y_block: &mut [u8],
     cb_block: &mut [u8],
     cr_block: &mut [u8],
 )
-    requires { AllReadable frame.now × BlocksFit chroma_format mb_col mb_row (length y_block.old) (length cb_block.old) (length cr_block.old) }
-    ensures y_block_at_exit { y_block.new ≡ directed_part chroma_format (frame_reading frame.now) motion ColourComponent.luma mb_col mb_row }
-    ensures cb_block_at_exit { cb_block.new ≡ directed_part chroma_format (frame_reading frame.now) motion ColourComponent.cb mb_col mb_row }
-    ensures cr_block_at_exit { cr_block.new ≡ directed_part chroma_format (frame_reading frame.now) motion ColourComponent.cr mb_col mb_row }
+    requires { AllReadable frame.now × BlocksFit chroma_format (length y_block.old) (length cb_block.old) (length cr_block.old) }
+    ensures y_block_at_exit { y_block.new ≡ directed_part chroma_format (frame_reading frame.now) motion ColourComponent.luma cell.mb_col cell.mb_row }
+    ensures cb_block_at_exit { cb_block.new ≡ directed_part chroma_format (frame_reading frame.now) motion ColourComponent.cb cell.mb_col cell.mb_row }
+    ensures cr_block_at_exit { cr_block.new ≡ directed_part chroma_format (frame_reading frame.now) motion ColourComponent.cr cell.mb_col cell.mb_row }
 {
-    let luma_at = Area::luma(mb_col, mb_row);
-    let chroma_at = Area::chroma(chroma_format, mb_col, mb_row);
+    let luma_at = cell.luma();
+    let chroma_at = cell.chroma(chroma_format);
     let chroma = motion.chroma(chroma_format);
     predict_direction(&frame.y, luma_at, &motion, y_block);
     predict_direction(&frame.cb, chroma_at, &chroma, cb_block);
@@ -60,12 +59,11 @@ pub(crate) fn predict_from_one(
     motion: DirectionMotion,
     chroma_format: ChromaFormat,
     frame: &FrameBuffer<'_>,
-    mb_col: usize,
-    mb_row: usize,
+    cell: Cell,
     out: &mut [u8],
 )
-    requires { AllReadable frame.now × CellFits chroma_format mb_col mb_row (length out.old) }
-    ensures { out.new ≡ directed chroma_format (frame_reading frame.now) motion mb_col mb_row }
+    requires { AllReadable frame.now × (length out.old ≡ macroblock_bytes chroma_format) }
+    ensures { out.new ≡ directed chroma_format (frame_reading frame.now) motion cell.mb_col cell.mb_row }
 {
     let size = chroma_mb_extent(chroma_format);
     let n = size.width * size.height;
@@ -77,8 +75,7 @@ pub(crate) fn predict_from_one(
         motion,
         chroma_format,
         frame,
-        mb_col,
-        mb_row,
+        cell,
         &mut y_block,
         &mut cb_block[..n],
         &mut cr_block[..n],
@@ -95,17 +92,16 @@ pub(crate) fn predict_from_two(
     chroma_format: ChromaFormat,
     forward: &FrameBuffer<'_>,
     backward: &FrameBuffer<'_>,
-    mb_col: usize,
-    mb_row: usize,
+    cell: Cell,
     out: &mut [u8],
 )
-    requires { AllReadable forward.now × AllReadable backward.now × CellFits chroma_format mb_col mb_row (length out.old) }
+    requires { AllReadable forward.now × AllReadable backward.now × (length out.old ≡ macroblock_bytes chroma_format) }
     ensures { let forward_read = frame_reading forward.now in
         let backward_read = frame_reading backward.now in
-        out.new ≡ predicted rounded chroma_format forward_read backward_read (Both forward_motion backward_motion) mb_col mb_row }
+        out.new ≡ predicted rounded chroma_format forward_read backward_read (Both forward_motion backward_motion) cell.mb_col cell.mb_row }
 {
-    let luma_at = Area::luma(mb_col, mb_row);
-    let chroma_at = Area::chroma(chroma_format, mb_col, mb_row);
+    let luma_at = cell.luma();
+    let chroma_at = cell.chroma(chroma_format);
     let forward_chroma = forward_motion.chroma(chroma_format);
     let backward_chroma = backward_motion.chroma(chroma_format);
     let a = 256 + chroma_at.bytes();

@@ -2,16 +2,16 @@
 ghost use Rattle.std.specs.Prelude.{◌≡◌, false, Some, None, Ok, length, is_some};
 ghost use Rattle.std.specs.Result.{result_err};
 ghost use Rattle.combine_predictions.specs.Refusals.{answered, unless_refused};
-ghost use Rattle.forming_predictions.specs.Means.{rounded};
 ghost use Rattle.inter_reconstruction.specs.declared.motion.Uses.TheVariants.{Both};
 ghost use Rattle.inter_reconstruction.specs.declared.macroblock.PredictionRefusal.TheVariants.{BackwardMissing};
+ghost use Rattle.inter_reconstruction.specs.Components.{macroblock_bytes};
 ghost use Rattle.inter_reconstruction.specs.Motion.{wanted_by, uses_by, BackwardAlone};
 ghost use Rattle.inter_reconstruction.specs.Frames.{samples_of, lengths_of, sides_of, samples_in, reference_sides, reference_lengths, reference_reading};
-ghost use Rattle.inter_reconstruction.specs.Macroblock.{predicted};
-ghost use Rattle.inter_reconstruction.specs.Refusals.{prediction_number, same_geometry, planes_fit, one_refusal, references_refusal, prediction_refusal};
+ghost use Rattle.inter_reconstruction.specs.Refusals.{prediction_number, same_geometry, planes_fit, one_refusal};
 ghost use Rattle.inter_reconstruction.specs.Answers.{accepted, directions_of, prediction_directions, refusal_among, refusal_from, prediction_from};
-ghost use Rattle.inter_reconstruction.specs.inner.Planes.{CellFits, directed, missing_in, destination_refusal};
+ghost use Rattle.inter_reconstruction.specs.inner.Planes.{directed, missing_in, destination_refusal};
 
+use crate::area::Cell;
 use crate::components::{predict_from_one, predict_from_two};
 use crate::frames::{FrameBuffer, FrameGeometry, FrameSides, chroma_mb_extent};
 use crate::motion::{DirectionMotion, DirectionVectors, Motion, UsedDirections, Uses};
@@ -96,13 +96,12 @@ fn predict_alone(
     direction: PredictionDirection,
     motion: DirectionMotion,
     reference: Option<FrameBuffer<'_>>,
-    mb_col: usize,
-    mb_row: usize,
+    cell: Cell,
     out: &mut [u8],
 ) -> Result<(), PredictionRefusal>
-    requires { CellFits dest.chroma_format mb_col mb_row (length out.old) }
+    requires { length out.old ≡ macroblock_bytes dest.chroma_format }
     ensures answer { result ≡ answered (one_refusal (missing_in direction) dest (reference_sides reference.entry) (reference_lengths reference.entry)) tt }
-    ensures buffer { out.new ≡ unless_refused (result_err result) (directed dest.chroma_format (reference_reading reference.entry) motion mb_col mb_row) out.old }
+    ensures buffer { out.new ≡ unless_refused (result_err result) (directed dest.chroma_format (reference_reading reference.entry) motion cell.mb_col cell.mb_row) out.old }
 {
     let frame = reference.as_ref().ok_or(missing_in(direction))?;
     if !same_geometry(frame.geometry, dest) {
@@ -111,15 +110,7 @@ fn predict_alone(
     if !frame_fits(frame) {
         return Err(PredictionRefusal::OutsideDomain);
     }
-    predict_from_one(
-        direction,
-        motion,
-        dest.chroma_format,
-        frame,
-        mb_col,
-        mb_row,
-        out,
-    );
+    predict_from_one(direction, motion, dest.chroma_format, frame, cell, out);
     Ok(())
 }
 
@@ -131,13 +122,12 @@ fn predict_both(
     backward_motion: DirectionMotion,
     forward: Option<FrameBuffer<'_>>,
     backward: Option<FrameBuffer<'_>>,
-    mb_col: usize,
-    mb_row: usize,
+    cell: Cell,
     out: &mut [u8],
 ) -> Result<(), PredictionRefusal>
-    requires { CellFits dest.chroma_format mb_col mb_row (length out.old) }
+    requires { length out.old ≡ macroblock_bytes dest.chroma_format }
     ensures answer { result ≡ answered (refusal_among dest forward.entry backward.entry (Both forward_motion backward_motion)) tt }
-    ensures buffer { let prediction = prediction_from dest.chroma_format forward.entry backward.entry (Both forward_motion backward_motion) mb_col mb_row in
+    ensures buffer { let prediction = prediction_from dest.chroma_format forward.entry backward.entry (Both forward_motion backward_motion) cell.mb_col cell.mb_row in
         out.new ≡ unless_refused (result_err result) prediction out.old }
 {
     let first = forward.as_ref().ok_or(PredictionRefusal::ForwardMissing)?;
@@ -160,8 +150,7 @@ fn predict_both(
         dest.chroma_format,
         first,
         second,
-        mb_col,
-        mb_row,
+        cell,
         out,
     );
     Ok(())
@@ -195,51 +184,29 @@ fn predict_used(
     used: Uses,
     forward: Option<FrameBuffer<'_>>,
     backward: Option<FrameBuffer<'_>>,
-    mb_col: usize,
-    mb_row: usize,
+    cell: Cell,
     out: &mut [u8],
 ) -> Result<Accepted, PredictionRefusal>
-    requires { CellFits dest.chroma_format mb_col mb_row (length out.old) }
+    requires { length out.old ≡ macroblock_bytes dest.chroma_format }
     ensures answer { result ≡ answered (refusal_among dest forward.entry backward.entry used) (accepted used) }
-    ensures buffer { let prediction = prediction_from dest.chroma_format forward.entry backward.entry used mb_col mb_row in
+    ensures buffer { let prediction = prediction_from dest.chroma_format forward.entry backward.entry used cell.mb_col cell.mb_row in
         out.new ≡ unless_refused (result_err result) prediction out.old }
 {
-    match used {
+    let directions = match used {
         Uses::Forward(d) => {
-            predict_alone(
-                dest,
-                PredictionDirection::Forward,
-                d,
-                forward,
-                mb_col,
-                mb_row,
-                out,
-            )?;
-            Ok(Accepted {
-                directions: UsedDirections::Forward,
-            })
+            predict_alone(dest, PredictionDirection::Forward, d, forward, cell, out)?;
+            UsedDirections::Forward
         }
         Uses::Backward(e) => {
-            predict_alone(
-                dest,
-                PredictionDirection::Backward,
-                e,
-                backward,
-                mb_col,
-                mb_row,
-                out,
-            )?;
-            Ok(Accepted {
-                directions: UsedDirections::Backward,
-            })
+            predict_alone(dest, PredictionDirection::Backward, e, backward, cell, out)?;
+            UsedDirections::Backward
         }
         Uses::Both(d, e) => {
-            predict_both(dest, d, e, forward, backward, mb_col, mb_row, out)?;
-            Ok(Accepted {
-                directions: UsedDirections::Both,
-            })
+            predict_both(dest, d, e, forward, backward, cell, out)?;
+            UsedDirections::Both
         }
-    }
+    };
+    Ok(Accepted { directions })
 }
 
 /// Writes the prediction of a macroblock, frame-based or field-based by its vectors: luminance, then Cb, then Cr, each row after row. Nothing is
@@ -276,8 +243,7 @@ pub fn predict_macroblock_planes<V: DirectionVectors>(
         motion.uses(forward.is_some(), backward.is_some()),
         forward,
         backward,
-        mb_col,
-        mb_row,
+        Cell { mb_col, mb_row },
         out,
     )
 }

@@ -7,7 +7,7 @@ ghost use Rattle.inter_reconstruction.specs.Frames.{samples_of, lengths_of};
 ghost use Rattle.inter_reconstruction.specs.Placing.{place_at, stored, placed, whole_side, well_formed, cell_inside, picture_fits, placing_number, placing_refusal};
 ghost use Rattle.inter_reconstruction.specs.inner.Placing.{Room, Placeable};
 
-use crate::area::Area;
+use crate::area::{Area, Cell};
 use crate::frames::{FrameGeometry, FrameSides, chroma_mb_extent};
 use crate::macroblock::planes_fit;
 use crate::samples::copy_samples;
@@ -60,15 +60,11 @@ fn place_planes(
     requires { Placeable picture (lengths_of (samples_of y.old cb.old cr.old)) (length bytes.now) mb_col mb_row }
     ensures { samples_of y.new cb.new cr.new ≡ placed picture mb_col mb_row bytes.now (samples_of y.old cb.old cr.old) }
 {
-    let chroma_at = Area::chroma(picture.geometry.chroma_format, mb_col, mb_row);
+    let cell = Cell { mb_col, mb_row };
+    let chroma_at = cell.chroma(picture.geometry.chroma_format);
     let a = 256 + chroma_at.bytes();
     let e = bytes.len();
-    place_block(
-        &bytes[0..256],
-        Area::luma(mb_col, mb_row),
-        picture.y.width,
-        y,
-    );
+    place_block(&bytes[0..256], cell.luma(), picture.y.width, y);
     place_block(&bytes[256..a], chroma_at, picture.cb.width, cb);
     place_block(&bytes[a..e], chroma_at, picture.cr.width, cr);
 }

@@ -25,16 +25,8 @@ FrameFits b s = (c : ColourComponent) → PlaneFits (plane_of b c) (s c)
 abbrev pub AllReadable : FrameBuffer → Type 0
 AllReadable b = FrameFits (sides_of b) (samples_in b)
 
--- a cell that prediction takes, and an output of n bytes for it
-pub record CellFits (f : ChromaFormat) (col row n : ℕ) : Type 0 where
-  pub column : col ≤ 1023
-  pub line : row ≤ 1023
-  pub count : n ≡ macroblock_bytes f
-
--- a cell that prediction takes, and three local blocks for it, of a, b and r bytes
-pub record BlocksFit (f : ChromaFormat) (col row a b r : ℕ) : Type 0 where
-  pub column : col ≤ 1023
-  pub line : row ≤ 1023
+-- three local blocks for a macroblock, of a, b and r bytes
+pub record BlocksFit (f : ChromaFormat) (a b r : ℕ) : Type 0 where
   pub luminance : a ≡ block_bytes f luma
   pub cb_length : b ≡ block_bytes f cb
   pub cr_length : r ≡ block_bytes f cr

@@ -76,7 +76,7 @@ returns c =
     first second (omega (arith, total, n)))
     (append_count c.predict_two.new.out c.predict_two-2.new.out 256 m _ first second refl)
     (omega (arith, third, total, n))
-    ∙ parts_are f forward backward (Both a.forward_motion a.backward_motion) _ a.mb_col a.mb_row _ _ _
+    ∙ parts_are f forward backward (Both a.forward_motion a.backward_motion) _ a.cell.mb_col a.cell.mb_row _ _ _
     (λ i. Both (c.chroma-forward_chroma.ensures i) (c.chroma-backward_chroma.ensures i))
     (c.predict_two.ensures ∙ area_part at _)
     (c.predict_two-2.ensures ∙ area_part k _)

@@ -7,25 +7,18 @@ use Rattle.inter_reconstruction.specs.Components.{ColourComponent, luma, cb, cr}
 use Rattle.inter_reconstruction.specs.Frames.{samples_of}
 use Rattle.inter_reconstruction.specs.inner.Areas.{PartAt}
 use Rattle.inter_reconstruction.specs.inner.Placing.{Placeable}
-use Rattle.inter_reconstruction.specs.inner.Planes.{CellFits}
 use Rattle.inter_reconstruction.specs.declared.area.Area.{Area}
 use Rattle.pmv.specs.declared.kinds.ChromaFormat.TheVariants.{Yuv420}
 use Rattle.inter_reconstruction.proofs.Cells.{chroma_total, cr_part}
 use Rattle.inter_reconstruction.proofs.Places.{few_columns, few_rows, room_as, placed_as, part_cb, part_cr, planes_are}
 use Rattle.inter_reconstruction.proofs.placing.place_planes.Goals as goal
 
-module _ {p : FrameSides} {n : ColourComponent → ℕ} {bytes col row : ℕ} (r : Placeable p n bytes col row) where
-  cell : CellFits p.geometry.chroma_format col row bytes
-  cell = record { column = few_columns p n bytes col row r luma; line = few_rows p n bytes col row r luma; count = r.count }
+total : {p : FrameSides} {n : ColourComponent → ℕ} {bytes col row : ℕ} {at : Area} → Placeable p n bytes col row → PartAt p.geometry.chroma_format cb col row at
+    → bytes ≡ 256 + (at.width * at.height + at.width * at.height)
+total {p = p} r k = chroma_total p.geometry.chroma_format k.width k.height r.count
 
-  total : {at : Area} → PartAt p.geometry.chroma_format cb col row at → bytes ≡ 256 + (at.width * at.height + at.width * at.height)
-  total k = chroma_total p.geometry.chroma_format k.width k.height cell
-
-pub luma-requires : goal.luma-requires
-luma-requires c = ((cell c.requires).column, (cell c.requires).line)
-
-pub chroma-chroma_at-requires : goal.chroma-chroma_at-requires
-chroma-chroma_at-requires c = ((cell c.requires).column, (cell c.requires).line)
+pub invariant_of-cell : goal.invariant_of-cell
+invariant_of-cell c = record { near = (few_columns _ _ _ _ _ c.requires luma, few_rows _ _ _ _ _ c.requires luma) }
 
 pub place_block-requires : goal.place_block-requires
 place_block-requires c =
