@@ -12,12 +12,14 @@ use crate::{
 };
 
 /// `&` and not `&&`: both tests are made, and there is one path.
+#[tactic(auto, unfolding(crate::specs::Refusals::position_fits))]
 fn position_fits(last: i32, position: i32) -> bool
     ensures { result ≡ position_fits last position }
 {
     (FIRST_POSITION <= position) & (position <= last)
 }
 
+#[tactic(auto, unfolding(crate::specs::Refusals::block_side_fits))]
 fn block_side_fits(side: usize) -> bool
     ensures { result ≡ block_side_fits side }
 {

@@ -47,6 +47,7 @@ pub(crate) fn copy_samples<const N: usize>(from: &[u8; N], out: &mut [u8])
 
 /// N means of two samples. They go through a local array: there the loop has a fixed length and writes nothing that it might read, and it
 /// compiles to one instruction.
+#[tactic(auto, using(crate::proofs::RowMeans::two_parts))]
 pub(crate) fn two_row<const N: usize>(row: &[u8], below: &[u8], x: usize, dx: usize, out: &mut [u8])
     requires { RowFits row.now below.now x dx N × (length out.old ≡ N) }
     ensures { out.new ≡ tabulate N (two_of row.now below.now x dx) }
@@ -61,6 +62,7 @@ pub(crate) fn two_row<const N: usize>(row: &[u8], below: &[u8], x: usize, dx: us
 
 /// The mean of four samples from the means of its two pairs and the mean of those. That one rounds twice: it is 1 too large where the mean
 /// of a pair was rounded up, and it again.
+#[tactic(auto, using(crate::proofs::Pairs::of_pairs))]
 pub(crate) fn avg4_of_pairs(a: u8, b: u8, c: u8, d: u8, upper: u8, lower: u8, mean: u8) -> u8
     requires { (upper ≡ mean2 a b) × (lower ≡ mean2 c d) × (mean ≡ mean2 upper lower) }
     ensures { result ≡ mean4 a b c d }

@@ -36,6 +36,7 @@ pub(crate) struct Sides {
 }
 
 /// A coordinate, moved into 0..n - 1.
+#[tactic(auto, using(crate::proofs::Lines::clamp_is, laws::proofs::Bits::is_neg, laws::proofs::Bits::not_neg, laws::proofs::Bits::cast_val))]
 pub(crate) fn clamp_to(n: usize, v: i32) -> usize
     ensures { result ≡ clamp_to n v }
 {
@@ -83,6 +84,7 @@ impl<'a> View<'a> {
     }
 
     /// The row of the line that y is clamped to.
+    #[tactic(auto, using(crate::proofs::Reading::line_lt))]
     pub(crate) fn clamped_row(self, y: i32) -> &'a [u8]
         ensures { result.now ≡ row_at self.entry (clamp_to self.entry.count y) }
     {
