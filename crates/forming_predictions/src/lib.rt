@@ -165,7 +165,7 @@ impl SplitVector {
 }
 
 /// The whole part, floored: a shift, since division would truncate.
-#[tactic(auto, using(crate::proofs::Splitting::half_is, crate::proofs::Splitting::floor_fits))]
+#[tactic(auto, using(crate::proofs::Splitting::half_is))]
 fn whole_part(vector: i32) -> i32
     ensures { result ≡ floor_half vector }
 {
@@ -201,7 +201,7 @@ pub fn split_vector(horizontal: i32, vertical: i32) -> SplitVector
 
 impl<'a> FieldReference<'a> {
     /// The number of the field's lines. It is a difference for the top field, since `height + 1` may be too large a number.
-    #[tactic(auto, using(crate::proofs::Lines::top_lines, crate::proofs::Lines::bottom_lines))]
+    #[tactic(auto, unfolding(crate::specs::Lines::field_lines))]
     pub fn height(self) -> usize
         ensures { result ≡ field_lines self.entry.parity self.entry.plane.sides.height }
     {
@@ -217,7 +217,7 @@ impl<'a> FieldReference<'a> {
 // ---- refusals
 
 /// Whether a plane with so many samples is in the domain.
-#[tactic(auto, using(crate::proofs::Refusals::wide_plane, crate::proofs::Refusals::high_plane, crate::proofs::Refusals::counted_plane))]
+#[tactic(auto, unfolding(crate::specs::Refusals::plane_fits))]
 pub fn plane_fits(sides: PlaneSides, count: usize) -> bool
     ensures { result ≡ plane_fits sides.width sides.height count }
 {
@@ -233,7 +233,7 @@ pub fn plane_fits(sides: PlaneSides, count: usize) -> bool
 // ---- the calls
 
 /// The sample at (x, y). A plane has no samples where one of its sides is 0.
-#[tactic(auto, using(crate::proofs::Reading::same_count, crate::proofs::Reading::plane_accepted, crate::proofs::Views::no_sample, crate::proofs::Refusals::plane_right))]
+#[tactic(auto, using(crate::proofs::Views::no_sample, crate::proofs::Refusals::plane_right))]
 fn sample_of<'a, R: Reference<'a>>(reference: R, x: i32, y: i32) -> Result<u8, FormingRefusal>
     ensures answer { result ≡ answered (plane_refused (R.plane reference)) (read_at (R.lines reference) (R.plane reference) x y) }
     ensures refusal { result_err result ≡ plane_refused (R.plane reference) }
