@@ -9,7 +9,7 @@ use crate::means::{any_row, form_row, two_row};
 use crate::view::{Neighbour, Sides, View};
 
 /// Whether n places from `position` on lie below the limit.
-#[tactic(auto, using(crate::proofs::Blocks::inside_up, crate::proofs::Blocks::inside_down))]
+#[tactic(auto, unfolding(crate::specs::inner::Views::inside_of))]
 pub(crate) fn is_inside(position: i32, n: usize, limit: usize) -> bool
     requires { n ≤ 17 }
     ensures { result ≡ inside_of position n limit }

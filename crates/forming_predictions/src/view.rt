@@ -36,7 +36,7 @@ pub(crate) struct Sides {
 }
 
 /// A coordinate, moved into 0..n - 1.
-#[tactic(auto, using(crate::proofs::Lines::clamp_is))]
+#[tactic(auto, unfolding(crate::specs::Lines::clamp_to))]
 pub(crate) fn clamp_to(n: usize, v: i32) -> usize
     ensures { result ≡ clamp_to n v }
 {
