@@ -49,12 +49,14 @@ pub(crate) fn check_plane(plane: ReferencePlane<'_>) -> Result<(), FormingRefusa
     check_domain(is_whole(plane))
 }
 
+#[tactic(auto, unfolding(crate::specs::Refusals::sample_refusal, crate::specs::Refusals::plane_refusal, crate::specs::Refusals::position_refusal))]
 pub(crate) fn check_sample(plane: ReferencePlane<'_>, x: i32, y: i32) -> Result<(), FormingRefusal>
     ensures { result ≡ answered (sample_refused plane.entry x y) tt }
 {
     check_domain(is_whole(plane) & (position_fits(LAST_SAMPLE, x) & position_fits(LAST_SAMPLE, y)))
 }
 
+#[tactic(auto, unfolding(crate::specs::Refusals::block_refusal, crate::specs::Refusals::plane_refusal, crate::specs::Refusals::position_refusal, crate::specs::Refusals::block_side_fits))]
 pub(crate) fn check_block(
     plane: ReferencePlane<'_>,
     x: i32,

@@ -272,6 +272,7 @@ impl<'a> FieldReference<'a> {
 
 /// The predicted sample at (x, y) of a frame or of a field, by a vector in half samples; of a field, y and the vector count its lines. It
 /// refuses a plane as `sample` does, and a position outside −32,768 to 32,782.
+#[tactic(auto, using(crate::proofs::Reading::sample_accepted, crate::proofs::Reading::same_count, crate::proofs::Forming::empty_formed, crate::proofs::Refusals::sample_right, crate::proofs::Refusals::plane_none))]
 pub fn predict_sample<'a, R: Reference<'a>>(
     reference: R,
     x: i32,
@@ -298,6 +299,7 @@ pub fn predict_sample<'a, R: Reference<'a>>(
 /// Writes the predicted block of a frame or of a field, row after row, to `out`; its first sample is at (top_left_x, top_left_y), and of a
 /// field the position and the vector count its lines. It refuses a plane as `sample` does, a block side outside 1 to 16, a position outside
 /// −32,768 to 32,767, and then an output that is not width times height bytes long; a refusal writes nothing.
+#[tactic(auto, using(crate::proofs::Reading::block_accepted, crate::proofs::Reading::same_count, crate::proofs::Refusals::plane_none))]
 pub fn predict_block<'a, R: Reference<'a>>(
     reference: R,
     top_left_x: i32,

@@ -71,6 +71,7 @@ pub(crate) fn avg4_of_pairs(a: u8, b: u8, c: u8, d: u8, upper: u8, lower: u8, me
 }
 
 /// Sixteen of these.
+#[tactic(auto, using(laws::proofs::Filled::filled_none, laws::proofs::Tabulated::length_tab, laws::proofs::Tabulated::get_or_tab))]
 pub(crate) fn sixteen_of_pairs(
     a: &[u8],
     b: &[u8],
@@ -92,6 +93,7 @@ pub(crate) fn sixteen_of_pairs(
 
 /// Eight means of four samples, by their sums, through a local array as in `two_row`. Sixteen go another way, the faster one there: the two are
 /// no one function over the number.
+#[tactic(auto, using(crate::proofs::RowMeans::here_length, laws::proofs::Tabulated::tab_ext, laws::proofs::Parts::part_at), unfolding(crate::specs::inner::Views::four_of))]
 pub(crate) fn four_eight(row: &[u8], below: &[u8], x: usize, dx: usize, out: &mut [u8])
     requires { RowFits row.now below.now x dx 8 × (length out.old ≡ 8) }
     ensures { out.new ≡ tabulate 8 (four_of row.now below.now x dx) }
@@ -153,6 +155,7 @@ pub(crate) fn form_row(row: &[u8], below: &[u8], x: usize, dx: usize, dy: usize,
 }
 
 /// A row of fewer than eight.
+#[tactic(auto, using(crate::proofs::RowMeans::here_length, laws::proofs::Tabulated::tab_ext, laws::proofs::Parts::part_at), unfolding(crate::specs::inner::Views::four_of))]
 fn short_row(row: &[u8], below: &[u8], x: usize, dx: usize, out: &mut [u8])
     requires { RowFits row.now below.now x dx (length out.old) }
     ensures { out.new ≡ tabulate (length out.old) (four_of row.now below.now x dx) }

@@ -92,6 +92,7 @@ impl<'a> View<'a> {
     }
 
     /// The sample at (x, y), clamped.
+    #[tactic(auto, using(crate::proofs::Reading::line_lt, crate::proofs::ViewRows::clamped_length, crate::proofs::ViewRows::clamped_read))]
     pub(crate) fn sample(self, x: i32, y: i32) -> u8
         ensures { result ≡ read self.entry x y }
     {
@@ -99,6 +100,7 @@ impl<'a> View<'a> {
     }
 
     /// One predicted sample.
+    #[tactic(auto, unfolding(crate::specs::inner::Views::spread))]
     pub(crate) fn form_sample(self, x: i32, y: i32, to: Neighbour) -> u8
         requires { Steps 1 x × Steps 1 y }
         ensures { result ≡ formed_at self.entry to x y }
