@@ -1,13 +1,12 @@
 -- Laws of blocks, and of their rows.
 -- Assumes nothing.
 use mathlib.Core.Path.{◌≡◌, refl, sym, ap, ◌∙◌}
-use mathlib.Core.Bool.{true, false}
+use mathlib.Core.Bool.{true}
 use mathlib.Core.List.{List}
 use Prim.Native.Nat.{ℕ, ◌+◌, ◌-◌, ◌*◌, ◌/◌, ◌%◌, ◌≤◌, ◌<◌}
 use native.Mathlib.Nat.{zero-add, add_assoc, one-mul, mul_comm, mul_assoc, mul-add, add-mul, mod-lt, div-lt_iff_lt-mul}
 use native.Mathlib.Omega.{arith}
 use lib.Arith.{digits_lt, digits_div, digits_mod}
-use lib.Dec.{leb}
 use lib.IntN.{ℤ, pos, negsuc, ◌+ℤ◌, +ℤ_assoc}
 use lib.ListN.{length, get_or, take, drop}
 use lib.Seq.{length-take-le}
@@ -243,16 +242,6 @@ pub plain_block : (read : ℤ → ℤ → ℕ) (x y : ℤ) (bw bh : ℕ)
 plain_block read x y bw bh = block_ext bw bh _ _ x y (λ a b. sym (spread_none read a b))
 
 -- ---- the test that nothing is outside
-pub inside_up : (z : ℤ) (n limit : ℕ) → zn z ≡ 0 → inside_of z n limit ≡ leb (zp z + n) limit
-unfolding inside_of
-inside_up (pos a) n limit e = refl
-inside_up (negsuc a) n limit e = absurd (omega arith)
-
-pub inside_down : (z : ℤ) (n limit : ℕ) → 0 < zn z → inside_of z n limit ≡ false
-unfolding inside_of
-inside_down (pos a) n limit h = absurd (omega arith)
-inside_down (negsuc a) n limit h = refl
-
 pub inside_yes : (z : ℤ) (n limit : ℕ) → inside_of z n limit ≡ true → (zn z ≡ 0) × (zp z + n ≤ limit)
 unfolding inside_of
 inside_yes (pos a) n limit e = (refl, leb-true (a + n) limit e)

@@ -14,7 +14,7 @@ use Rattle.forming_predictions.specs.declared.FormingRefusal.{FormingRefusal}
 use Rattle.forming_predictions.specs.declared.ReferencePlane.{ReferencePlane}
 use Rattle.forming_predictions.specs.Splitting.{floor_half, half_flag}
 use Rattle.forming_predictions.specs.Lines.{clamp_to}
-use Rattle.forming_predictions.specs.Planes.{count_of, plane_refused, sample_refused, block_refused}
+use Rattle.forming_predictions.specs.Planes.{count_of, sample_refused, block_refused}
 use Rattle.forming_predictions.specs.inner.Views.{inside_of, bit_of}
 use Rattle.forming_predictions.proofs.Lines.{clamp_lt}
 use Rattle.forming_predictions.proofs.Blocks.{inside_yes}
@@ -48,10 +48,6 @@ at_half f e = rw (to_z-of_z f) at e
 module _ {p q : ReferencePlane} (e : p ≡ q) where
   pub same_count : count_of p ≡ count_of q
   same_count = ap (λ (r : ReferencePlane). count_of r) e
-
-  pub plane_accepted : {v : Unit {0}} → ◌≡◌ {A = Result Unit FormingRefusal} (Ok v) (answered (plane_refused p) tt)
-      → plane_refused q ≡ None
-  plane_accepted d = is_accepted _ _ (rw e at d)
 
   module _ {x y : ℤ} (f : SFits w32 x) (g : SFits w32 y) where
     pub sample_accepted : {v : Unit {0}}

@@ -2,13 +2,13 @@
 -- Assumes nothing.
 use mathlib.Core.Path.{◌≡◌, refl, sym, ◌∙◌}
 use mathlib.Core.Bool.{Bool, true, false, not, ◌&&◌}
-use Prim.Native.Nat.{ℕ, ◌*◌, ◌≤◌, ◌<◌}
+use Prim.Native.Nat.{ℕ, ◌*◌, ◌≤◌}
 use native.Mathlib.Nat.{mul-le-mul}
 use native.Mathlib.Omega.{arith}
 use lib.Dec.{leb, eqb}
 use lib.IntN.{ℤ, pos, negsuc}
 use lib.Signed.{le_z}
-use borrow.Author.Tests.{leb-true, eqb-true, le-leb, lt-leb, eq-eqb, ne_eqb}
+use borrow.Author.Tests.{leb-true, eqb-true, le-leb, eq-eqb, ne_eqb}
 use mir.Syntax.{w64}
 use mir.Val.{Fits}
 use Rattle.laws.proofs.Signed.{le_yes}
@@ -123,19 +123,6 @@ block_right w h n x y bw bh o e =
           };
       room = eqb-true o (bw * bh) (no_cause (eqb o (bw * bh)) WrongLength (none_second c3 c4 t2));
     }
-
--- ---- the tests of a plane, in the order of the code
-pub wide_plane : (w h n : ℕ) → 16384 < w → false ≡ plane_fits w h n
-unfolding plane_fits
-wide_plane w h n p = rw (lt-leb w 16384 p)
-
-pub high_plane : (w h n : ℕ) → w ≤ 16384 → 16384 < h → false ≡ plane_fits w h n
-unfolding plane_fits
-high_plane w h n p q = rw (le-leb w 16384 p, lt-leb h 16384 q)
-
-pub counted_plane : (w h n : ℕ) → w ≤ 16384 → h ≤ 16384 → eqb n (w * h) ≡ plane_fits w h n
-unfolding plane_fits
-counted_plane w h n p q = rw (le-leb w 16384 p, le-leb h 16384 q)
 
 -- ---- several tests for one reason
 one_cause : {R : Type 0} (a b : Bool) (r : R) → cause (not (a && b)) r ≡ or_else (cause (not a) r) (cause (not b) r)

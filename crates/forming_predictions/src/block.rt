@@ -13,6 +13,7 @@ use crate::split_component;
 use crate::view::{Neighbour, Sides, View};
 
 /// A block from (x, y) on.
+#[tactic(auto, unfolding(crate::specs::inner::Views::inside_of))]
 pub(crate) fn form(view: View<'_>, x: i32, y: i32, to: Neighbour, size: Sides, out: &mut [u8])
     requires { Reach x × Reach y × (length out.old ≡ size.width * size.height) }
     ensures { out.new ≡ block_at view.entry to x y size.width size.height }

@@ -12,12 +12,14 @@ use crate::{
 };
 
 /// `&` and not `&&`: both tests are made, and there is one path.
+#[tactic(auto, unfolding(crate::specs::Refusals::position_fits))]
 fn position_fits(last: i32, position: i32) -> bool
     ensures { result ≡ position_fits last position }
 {
     (FIRST_POSITION <= position) & (position <= last)
 }
 
+#[tactic(auto, unfolding(crate::specs::Refusals::block_side_fits))]
 fn block_side_fits(side: usize) -> bool
     ensures { result ≡ block_side_fits side }
 {
@@ -47,12 +49,14 @@ pub(crate) fn check_plane(plane: ReferencePlane<'_>) -> Result<(), FormingRefusa
     check_domain(is_whole(plane))
 }
 
+#[tactic(auto, unfolding(crate::specs::Refusals::sample_refusal, crate::specs::Refusals::plane_refusal, crate::specs::Refusals::position_refusal))]
 pub(crate) fn check_sample(plane: ReferencePlane<'_>, x: i32, y: i32) -> Result<(), FormingRefusal>
     ensures { result ≡ answered (sample_refused plane.entry x y) tt }
 {
     check_domain(is_whole(plane) & (position_fits(LAST_SAMPLE, x) & position_fits(LAST_SAMPLE, y)))
 }
 
+#[tactic(auto, unfolding(crate::specs::Refusals::block_refusal, crate::specs::Refusals::plane_refusal, crate::specs::Refusals::position_refusal, crate::specs::Refusals::block_side_fits))]
 pub(crate) fn check_block(
     plane: ReferencePlane<'_>,
     x: i32,

@@ -29,6 +29,7 @@ fn pick_samples<const N: usize>(row: &[u8], columns: &[usize], out: &mut [u8])
 }
 
 /// The samples of `height` lines in N columns, from line y on.
+#[tactic(auto, using(laws::proofs::Rows::rows_none, laws::proofs::Rows::rows_part, crate::proofs::ViewRows::clamped_length))]
 fn fetch_lines<const N: usize>(
     view: View<'_>,
     columns: &[usize],

@@ -9,6 +9,7 @@ use crate::means::{any_row, form_row, two_row};
 use crate::view::{Neighbour, Sides, View};
 
 /// Whether n places from `position` on lie below the limit.
+#[tactic(auto, unfolding(crate::specs::inner::Views::inside_of))]
 pub(crate) fn is_inside(position: i32, n: usize, limit: usize) -> bool
     requires { n ≤ 17 }
     ensures { result ≡ inside_of position n limit }
@@ -20,6 +21,7 @@ pub(crate) fn is_inside(position: i32, n: usize, limit: usize) -> bool
 }
 
 /// A row of a block from line y on: of 8 or 16 samples, or of any number.
+#[tactic(auto, using(crate::proofs::ViewRows::inside_cells, laws::proofs::Tabulated::tab_ext))]
 fn form_line<const EIGHTS: bool>(view: View<'_>, x: usize, y: usize, to: Neighbour, out: &mut [u8])
     requires { LiesIn view to x y (length out.old) 1 × (EIGHTS ≡ true → Eights (length out.old)) × (length out.old ≤ 16) }
     ensures { out.new ≡ tabulate (length out.old) (cell_at view.entry to (pos x) (pos y)) }

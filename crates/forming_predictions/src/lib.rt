@@ -165,6 +165,7 @@ impl SplitVector {
 }
 
 /// The whole part, floored: a shift, since division would truncate.
+#[tactic(auto, using(crate::proofs::Splitting::half_is))]
 fn whole_part(vector: i32) -> i32
     ensures { result ≡ floor_half vector }
 {
@@ -200,6 +201,7 @@ pub fn split_vector(horizontal: i32, vertical: i32) -> SplitVector
 
 impl<'a> FieldReference<'a> {
     /// The number of the field's lines. It is a difference for the top field, since `height + 1` may be too large a number.
+    #[tactic(auto, unfolding(crate::specs::Lines::field_lines))]
     pub fn height(self) -> usize
         ensures { result ≡ field_lines self.entry.parity self.entry.plane.sides.height }
     {
@@ -215,6 +217,7 @@ impl<'a> FieldReference<'a> {
 // ---- refusals
 
 /// Whether a plane with so many samples is in the domain.
+#[tactic(auto, unfolding(crate::specs::Refusals::plane_fits))]
 pub fn plane_fits(sides: PlaneSides, count: usize) -> bool
     ensures { result ≡ plane_fits sides.width sides.height count }
 {
@@ -230,6 +233,7 @@ pub fn plane_fits(sides: PlaneSides, count: usize) -> bool
 // ---- the calls
 
 /// The sample at (x, y). A plane has no samples where one of its sides is 0.
+#[tactic(auto, using(crate::proofs::Views::no_sample, crate::proofs::Refusals::plane_right))]
 fn sample_of<'a, R: Reference<'a>>(reference: R, x: i32, y: i32) -> Result<u8, FormingRefusal>
     ensures answer { result ≡ answered (plane_refused (R.plane reference)) (read_at (R.lines reference) (R.plane reference) x y) }
     ensures refusal { result_err result ≡ plane_refused (R.plane reference) }
@@ -268,6 +272,7 @@ impl<'a> FieldReference<'a> {
 
 /// The predicted sample at (x, y) of a frame or of a field, by a vector in half samples; of a field, y and the vector count its lines. It
 /// refuses a plane as `sample` does, and a position outside −32,768 to 32,782.
+#[tactic(auto, using(crate::proofs::Reading::sample_accepted, crate::proofs::Reading::same_count, crate::proofs::Forming::empty_formed, crate::proofs::Refusals::sample_right, crate::proofs::Refusals::plane_none))]
 pub fn predict_sample<'a, R: Reference<'a>>(
     reference: R,
     x: i32,
@@ -294,6 +299,7 @@ pub fn predict_sample<'a, R: Reference<'a>>(
 /// Writes the predicted block of a frame or of a field, row after row, to `out`; its first sample is at (top_left_x, top_left_y), and of a
 /// field the position and the vector count its lines. It refuses a plane as `sample` does, a block side outside 1 to 16, a position outside
 /// −32,768 to 32,767, and then an output that is not width times height bytes long; a refusal writes nothing.
+#[tactic(auto, using(crate::proofs::Reading::block_accepted, crate::proofs::Reading::same_count, crate::proofs::Refusals::plane_none))]
 pub fn predict_block<'a, R: Reference<'a>>(
     reference: R,
     top_left_x: i32,

@@ -47,6 +47,7 @@ pub(crate) fn copy_samples<const N: usize>(from: &[u8; N], out: &mut [u8])
 
 /// N means of two samples. They go through a local array: there the loop has a fixed length and writes nothing that it might read, and it
 /// compiles to one instruction.
+#[tactic(auto, using(crate::proofs::RowMeans::two_parts))]
 pub(crate) fn two_row<const N: usize>(row: &[u8], below: &[u8], x: usize, dx: usize, out: &mut [u8])
     requires { RowFits row.now below.now x dx N × (length out.old ≡ N) }
     ensures { out.new ≡ tabulate N (two_of row.now below.now x dx) }
@@ -61,6 +62,7 @@ pub(crate) fn two_row<const N: usize>(row: &[u8], below: &[u8], x: usize, dx: us
 
 /// The mean of four samples from the means of its two pairs and the mean of those. That one rounds twice: it is 1 too large where the mean
 /// of a pair was rounded up, and it again.
+#[tactic(auto, using(crate::proofs::Pairs::of_pairs))]
 pub(crate) fn avg4_of_pairs(a: u8, b: u8, c: u8, d: u8, upper: u8, lower: u8, mean: u8) -> u8
     requires { (upper ≡ mean2 a b) × (lower ≡ mean2 c d) × (mean ≡ mean2 upper lower) }
     ensures { result ≡ mean4 a b c d }
@@ -69,6 +71,7 @@ pub(crate) fn avg4_of_pairs(a: u8, b: u8, c: u8, d: u8, upper: u8, lower: u8, me
 }
 
 /// Sixteen of these.
+#[tactic(auto, using(laws::proofs::Filled::filled_none, laws::proofs::Tabulated::length_tab, laws::proofs::Tabulated::get_or_tab))]
 pub(crate) fn sixteen_of_pairs(
     a: &[u8],
     b: &[u8],
@@ -90,6 +93,7 @@ pub(crate) fn sixteen_of_pairs(
 
 /// Eight means of four samples, by their sums, through a local array as in `two_row`. Sixteen go another way, the faster one there: the two are
 /// no one function over the number.
+#[tactic(auto, using(crate::proofs::RowMeans::here_length, laws::proofs::Tabulated::tab_ext, laws::proofs::Parts::part_at), unfolding(crate::specs::inner::Views::four_of))]
 pub(crate) fn four_eight(row: &[u8], below: &[u8], x: usize, dx: usize, out: &mut [u8])
     requires { RowFits row.now below.now x dx 8 × (length out.old ≡ 8) }
     ensures { out.new ≡ tabulate 8 (four_of row.now below.now x dx) }
@@ -151,6 +155,7 @@ pub(crate) fn form_row(row: &[u8], below: &[u8], x: usize, dx: usize, dy: usize,
 }
 
 /// A row of fewer than eight.
+#[tactic(auto, using(crate::proofs::RowMeans::here_length, laws::proofs::Tabulated::tab_ext, laws::proofs::Parts::part_at), unfolding(crate::specs::inner::Views::four_of))]
 fn short_row(row: &[u8], below: &[u8], x: usize, dx: usize, out: &mut [u8])
     requires { RowFits row.now below.now x dx (length out.old) }
     ensures { out.new ≡ tabulate (length out.old) (four_of row.now below.now x dx) }

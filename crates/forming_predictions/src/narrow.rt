@@ -9,6 +9,7 @@ use crate::means::avg4;
 use crate::view::{Neighbour, Sides, View, clamp_to, shifted};
 
 /// A predicted sample of two rows of the plane, in the columns that x is clamped to.
+#[tactic(auto, using(crate::proofs::Lines::clamp_lt))]
 fn clamped_sample(row: &[u8], below: &[u8], x: i32, dx: usize) -> u8
     requires { (0 < length row.now) × (length below.now ≡ length row.now) × Steps 1 x × (dx ≤ 1) }
     ensures { result ≡ clamped_of row.now below.now x dx }
@@ -39,6 +40,7 @@ fn clamped_copy(row: &[u8], x: i32, out: &mut [u8])
 }
 
 /// A row of a block past an edge, out of the rows that the two lines are clamped to.
+#[tactic(auto, using(crate::proofs::ViewRows::clamped_some, crate::proofs::ViewRows::clamped_same))]
 fn clamped_line(view: View<'_>, x: i32, y: i32, to: Neighbour, out: &mut [u8])
     requires { Reach x × Steps 1 y × (length out.old ≤ 16) }
     ensures { out.new ≡ tabulate (length out.old) (cell_at view.entry to x y) }

@@ -67,6 +67,7 @@ fn frame_view<'a>(plane: ReferencePlane<'a>) -> View<'a>
 }
 
 /// A field's lines. A field without lines reads the plane's only row.
+#[tactic(auto, using(crate::proofs::Views::field_reads, crate::proofs::Views::rows_read, crate::proofs::Views::no_field, crate::proofs::Refusals::plane_right))]
 fn field_view<'a>(plane: ReferencePlane<'a>, parity: FieldParity) -> View<'a>
     requires { (plane_refused plane ≡ None) × (0 < count_of plane) }
     ensures { (x : ℤ) (y : ℤ) → read result x y ≡ read_at (field parity) plane.entry x y }

@@ -36,6 +36,7 @@ pub(crate) struct Sides {
 }
 
 /// A coordinate, moved into 0..n - 1.
+#[tactic(auto, unfolding(crate::specs::Lines::clamp_to))]
 pub(crate) fn clamp_to(n: usize, v: i32) -> usize
     ensures { result ≡ clamp_to n v }
 {
@@ -83,6 +84,7 @@ impl<'a> View<'a> {
     }
 
     /// The row of the line that y is clamped to.
+    #[tactic(auto, using(crate::proofs::Reading::line_lt))]
     pub(crate) fn clamped_row(self, y: i32) -> &'a [u8]
         ensures { result.now ≡ row_at self.entry (clamp_to self.entry.count y) }
     {
@@ -90,6 +92,7 @@ impl<'a> View<'a> {
     }
 
     /// The sample at (x, y), clamped.
+    #[tactic(auto, using(crate::proofs::Reading::line_lt, crate::proofs::ViewRows::clamped_length, crate::proofs::ViewRows::clamped_read))]
     pub(crate) fn sample(self, x: i32, y: i32) -> u8
         ensures { result ≡ read self.entry x y }
     {
@@ -97,6 +100,7 @@ impl<'a> View<'a> {
     }
 
     /// One predicted sample.
+    #[tactic(auto, unfolding(crate::specs::inner::Views::spread))]
     pub(crate) fn form_sample(self, x: i32, y: i32, to: Neighbour) -> u8
         requires { Steps 1 x × Steps 1 y }
         ensures { result ≡ formed_at self.entry to x y }

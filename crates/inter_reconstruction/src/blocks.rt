@@ -99,6 +99,7 @@ fn predict_halves(plane: ReferencePlane<'_>, at: Area, pair: FieldVectorPair, ou
 }
 
 /// The block of a direction whose fields have vectors of their own: each field's lines, then interleaved.
+#[tactic(auto, using(crate::proofs::Rectangles::halves_length, crate::proofs::Rectangles::interleaved_is, crate::proofs::Begun::front_is))]
 fn predict_fields(plane: ReferencePlane<'_>, at: Area, pair: FieldVectorPair, out: &mut [u8])
     requires { Readable plane × (length out.old ≡ at.width * at.height) × FieldRows at.y at.height }
     ensures { out.new ≡ rectangle at.width at.height (direction_sample rounded (plane_reading plane.entry) (Field pair)) at.x at.y }

@@ -54,6 +54,7 @@ fn store_blocks(direction: PredictionDirection, y: &[u8], cb: &[u8], cr: &[u8], 
 
 /// A macroblock with one direction. All three blocks are predicted before the first is copied: a copy that at once reads what was written
 /// in smaller parts waits until that is in memory.
+#[tactic(auto, using(crate::proofs::Begun::front_is, crate::proofs::Rectangles::rectangle_length), unfolding(crate::specs::Macroblock::macroblock))]
 pub(crate) fn predict_from_one(
     direction: PredictionDirection,
     motion: DirectionMotion,

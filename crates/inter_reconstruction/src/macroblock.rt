@@ -53,6 +53,7 @@ impl From<PredictionRefusal> for u32 {
 }
 
 /// A function, since the definition is the scope's; `==` on all fields is the same.
+#[tactic(auto, unfolding(crate::specs::Refusals::same_geometry))]
 fn same_geometry(a: FrameGeometry, b: FrameGeometry) -> bool
     ensures { result ≡ same_geometry a b }
 {
@@ -178,6 +179,7 @@ fn check_destination(
 }
 
 /// The directions that are used, with their references: what `prediction_refusal` has after the destination.
+#[tactic(auto, using(crate::proofs::Checks::forward_alone, crate::proofs::Checks::backward_alone))]
 #[inline(always)] // into each kind's call, which knows the kind: a macroblock of one direction takes 115 to 145 instructions less
 fn predict_used(
     dest: FrameGeometry,

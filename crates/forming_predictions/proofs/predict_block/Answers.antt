@@ -1,10 +1,8 @@
 -- A plane without samples gives zeros, and another one is read.
 -- Assumes nothing.
-use Rattle.std.proofs.Common.{refl, ◌∙◌, rules, arith, w32}
-use mir.Facts.{to_z-of_z}
+use Rattle.std.proofs.Common.{◌∙◌, rules, arith, w32}
 use Rattle.laws.proofs.Bits.{back}
 use Rattle.forming_predictions.specs.inner.Blocks.{read}
-use Rattle.forming_predictions.proofs.Refusals.{plane_none}
 use Rattle.forming_predictions.proofs.Reading.{same_count, block_accepted, at_moved, at_half}
 use Rattle.forming_predictions.proofs.Forming.{empty_block, view_block}
 use Rattle.forming_predictions.proofs.predict_block.Goals as goal
@@ -13,15 +11,6 @@ pub returns-then-plane-eq0-clause-buffer : goal.returns-then-plane-eq0-clause-bu
 returns-then-plane-eq0-clause-buffer g c =
     let r = block_accepted c.plane-plane.ensures c.ranges.top_left_x c.ranges.top_left_y c.in_ok-check_block.ensures in
     c.fill.ensures.after (λ y e. search rules) ∙ empty_block _ _ _ _ _ _ _ _ _ _ _ (omega (arith, r.plane.count, same_count c.plane-plane.ensures)) r.room
-
-pub view_of-requires : goal.view_of-requires
-view_of-requires g c = λ k. ((refl, tt), (plane_none (block_accepted c.plane-plane.ensures c.ranges.top_left_x c.ranges.top_left_y c.in_ok-check_block.ensures).plane, omega (arith, same_count c.plane-plane.ensures)))
-
-pub moved-requires : goal.moved-requires
-moved-requires g c = rw (to_z-of_z c.ranges.top_left_x) (block_accepted c.plane-plane.ensures c.ranges.top_left_x c.ranges.top_left_y c.in_ok-check_block.ensures).at_x
-
-pub moved-requires-2 : goal.moved-requires-2
-moved-requires-2 g c = rw (to_z-of_z c.ranges.top_left_y) (block_accepted c.plane-plane.ensures c.ranges.top_left_x c.ranges.top_left_y c.in_ok-check_block.ensures).at_y
 
 pub invariant_of-form : goal.invariant_of-form
 invariant_of-form g c = record { fits = (block_accepted c.plane-plane.ensures c.ranges.top_left_x c.ranges.top_left_y c.in_ok-check_block.ensures).sides }

@@ -1,4 +1,4 @@
--- The invariant before the first turn, and after a turn that writes a row.
+-- After a turn that writes a row, the invariant holds.
 -- Assumes nothing.
 use Rattle.std.proofs.Common.{to_z, of_z, pos, ◌+ℤ◌, ℕ, ap, sym, ◌∙◌, w32, arith}
 use Rattle.laws.specs.Tabulate.{tabulate}
@@ -7,17 +7,9 @@ use Rattle.forming_predictions.specs.inner.Views.{picked_of}
 use Rattle.forming_predictions.specs.inner.Blocks.{row_at}
 use lib.Arith.{digits_div, digits_mod}
 use Rattle.laws.proofs.Bits.{back}
-use Rattle.laws.proofs.Rows.{rows_none, rows_part, rows_step}
-use Rattle.forming_predictions.proofs.ViewRows.{clamped_length, picked_cells}
+use Rattle.laws.proofs.Rows.{rows_part, rows_step}
+use Rattle.forming_predictions.proofs.ViewRows.{picked_cells}
 use Rattle.forming_predictions.proofs.edges.fetch_lines.Goals as goal
-
-pub loop-r-init : goal.loop-r-init
-loop-r-init g c = rows_none _ _ _ _ c.requires.4
-
-pub pick_samples-requires : goal.pick_samples-requires
-pick_samples-requires g c =
-    let v = c.args.view in
-    (rw (c.clamped_row.ensures, clamped_length v _) c.requires.0, c.requires.1, rows_part c.loop-r.invariant (omega arith))
 
 pub loop-r-preserved : goal.loop-r-preserved
 loop-r-preserved g c =

@@ -7,8 +7,5 @@ use Rattle.forming_predictions.proofs.edges.pick_samples.Goals as goal
 pub loop-k-init : goal.loop-k-init
 loop-k-init g c = filled_none _ _
 
-pub bounds-row-columns : goal.bounds-row-columns
-bounds-row-columns g c = c.requires.0.inside c.loop-k.k (omega arith)
-
 pub loop-k-preserved : goal.loop-k-preserved
 loop-k-preserved g c = filled_turn c.loop-k.invariant (omega arith) refl

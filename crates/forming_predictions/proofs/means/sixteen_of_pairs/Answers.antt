@@ -1,38 +1,8 @@
--- The means of the pairs have 16 samples each, and sample k of each is what a turn asks for.
+-- The invariant after a turn that stores a mean.
 -- Assumes nothing.
-use Rattle.std.proofs.Common.{◌≡◌, ℕ, ◌<◌, List, length, get_or, ap, ◌∙◌, arith}
-use Rattle.laws.proofs.Filled.{filled_none, filled_length, filled_step}
-use Rattle.laws.proofs.Tabulated.{length_tab, get_or_tab}
-use Rattle.combine_predictions.specs.Averaging.{mean2, averaged}
+use Rattle.std.proofs.Common.{arith}
+use Rattle.laws.proofs.Filled.{filled_length, filled_step}
 use Rattle.forming_predictions.proofs.means.sixteen_of_pairs.Goals as goal
-
--- a list of means, of n bytes
-as_long : (m x y : List ℕ) → m ≡ averaged x y → length m ≡ length x
-as_long m x y e = ap length e ∙ length_tab _ _
-
-mean_at : (m x y : List ℕ) (k : ℕ) → m ≡ averaged x y → k < length x → get_or m k 0 ≡ mean2 (get_or x k 0) (get_or y k 0)
-mean_at m x y k e h = ap (λ (l : List ℕ). get_or l k 0) e ∙ get_or_tab _ _ _ _ h
-
-pub loop-k-init : goal.loop-k-init
-loop-k-init c = filled_none _ _
-
-pub bounds-upper-k : goal.bounds-upper-k
-bounds-upper-k c = omega (arith, as_long _ _ _ c.requires.upper_value.0)
-
-pub bounds-lower-k : goal.bounds-lower-k
-bounds-lower-k c = omega (arith, as_long _ _ _ c.requires.upper_value.1)
-
-pub bounds-mean-k : goal.bounds-mean-k
-bounds-mean-k c = omega (arith, as_long _ _ _ c.requires.upper_value.2, as_long _ _ _ c.requires.upper_value.0)
-
-pub avg4_of_pairs-requires : goal.avg4_of_pairs-requires
-avg4_of_pairs-requires c =
-    let u = c.requires.upper_value in
-    let k = c.loop-k.k in (
-      mean_at _ _ _ k u.0 (omega arith),
-      mean_at _ _ _ k u.1 (omega arith),
-      mean_at _ _ _ k u.2 (omega (arith, as_long _ _ _ u.0)),
-    )
 
 pub loop-k-preserved : goal.loop-k-preserved
 loop-k-preserved c =

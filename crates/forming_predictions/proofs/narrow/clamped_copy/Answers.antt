@@ -1,9 +1,8 @@
--- The column that is read lies in the row, and the invariant before the first turn, after a turn and at the end.
+-- The column that is read lies in the row, and the invariant before the first turn and after a turn.
 -- Assumes nothing.
-use Rattle.std.proofs.Common.{ap, ◌∙◌, ℕ, refl, pos, ◌+ℤ◌, length, get_or, arith, w32}
-use mir.Facts.{to_z-of_z}
+use Rattle.std.proofs.Common.{ap, ◌∙◌, ℕ, pos, ◌+ℤ◌, length, get_or, arith, w32}
 use Rattle.laws.proofs.Bits.{back}
-use Rattle.laws.proofs.Filled.{filled_none, filled_turn, filled_all}
+use Rattle.laws.proofs.Filled.{filled_none, filled_turn}
 use Rattle.forming_predictions.specs.Lines.{clamp_to}
 use Rattle.forming_predictions.specs.inner.Views.{column_at}
 use Rattle.forming_predictions.proofs.Lines.{clamp_lt}
@@ -24,6 +23,3 @@ loop-k-preserved c =
     filled_turn c.loop-k.invariant c.loop-k-test.true
     (ap (λ (j : ℕ). get_or c.args.row.now j 0)
     (c.clamp_to.ensures ∙ ap (clamp_to (length c.args.row.now)) (back w32 c.shifted.result c.shifted.type_inv ∙ c.shifted.ensures)))
-
-pub returns : goal.returns
-returns c = rw (to_z-of_z c.ranges.x) at (filled_all c.loop-k.invariant (omega (arith, c.loop-k.invariant.long)) refl)

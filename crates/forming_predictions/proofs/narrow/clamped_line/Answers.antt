@@ -5,12 +5,7 @@ use mir.Facts.{to_z-of_z}
 use Rattle.laws.proofs.Tabulated.{tab_ext}
 use Rattle.forming_predictions.proofs.Reading.{at_shifted}
 use Rattle.forming_predictions.proofs.Blocks.{clamped_cells, copied_cells}
-use Rattle.forming_predictions.proofs.ViewRows.{clamped_some, clamped_same}
 use Rattle.forming_predictions.proofs.narrow.clamped_line.Goals as goal
-
-pub clamped_copy-requires : goal.clamped_copy-requires
-clamped_copy-requires c =
-    (rw c.clamped_row-row.ensures (clamped_some c.args.view _), rw (to_z-of_z c.ranges.x) c.requires.0, c.requires.2)
 
 pub returns-then-to-eq0 : goal.returns-then-to-eq0
 returns-then-to-eq0 c =
@@ -20,16 +15,6 @@ returns-then-to-eq0 c =
     let row = rw (to_z-of_z c.ranges.y) at c.clamped_row-row.ensures in
     rw (right, below)
     ((rw (to_z-of_z c.ranges.x, row) at c.clamped_copy.ensures) ∙ tab_ext _ _ _ (λ k h. copied_cells a.view.fits a.y refl a.x k))
-
-pub clamped_row-requires : goal.clamped_row-requires
-clamped_row-requires c =
-    let v = c.args.view in (
-      rw c.clamped_row-row.ensures (clamped_some v _),
-      rw (c.clamped_row-row.ensures, c.clamped_row-below.ensures) (clamped_same v _ _),
-      rw (to_z-of_z c.ranges.x) c.requires.0,
-      c.args.to.near.0,
-      c.requires.2,
-    )
 
 pub returns : goal.returns
 returns c =

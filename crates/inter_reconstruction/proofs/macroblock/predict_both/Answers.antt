@@ -1,6 +1,7 @@
 -- Both references are there, their geometries are the destination's, and the tests say that both frames' planes are in the domain.
 -- Assumes nothing.
-use Rattle.std.proofs.Common.{◌∙◌, sym}
+use Rattle.std.proofs.Common.{◌∙◌, sym, arith}
+use Rattle.std.proofs.lemmas.Grind.{common_steps}
 use Rattle.inter_reconstruction.specs.Frames.{sides_of, samples_in}
 use Rattle.inter_reconstruction.proofs.Checks.{frame_fits, is_there}
 use Rattle.inter_reconstruction.proofs.macroblock.predict_both.Goals as goal
@@ -16,21 +17,10 @@ predict_from_two-requires c =
 
 pub returns-then-not-frame_fits-clause-answer : goal.returns-then-not-frame_fits-clause-answer
 returns-then-not-frame_fits-clause-answer c =
-    rw (
-      is_there _ _ _ c.as_ref.ensures.value c.in_ok-first.ensures.value,
-      is_there _ _ _ c.as_ref-2.ensures.value c.in_ok-second.ensures.value,
-      sym c.same_geometry.ensures ∙ c.if-not-same_geometry.false,
-      sym c.same_geometry-2.ensures ∙ c.if-not-same_geometry-2.false,
-      sym c.frame_fits.ensures ∙ c.if-not-frame_fits.true,
-    )
+    rw (is_there _ _ _ c.as_ref.ensures.value c.in_ok-first.ensures.value, is_there _ _ _ c.as_ref-2.ensures.value c.in_ok-second.ensures.value)
+    (grind (arith, common_steps))
 
 pub returns-clause-answer : goal.returns-clause-answer
 returns-clause-answer c =
-    rw (
-      is_there _ _ _ c.as_ref.ensures.value c.in_ok-first.ensures.value,
-      is_there _ _ _ c.as_ref-2.ensures.value c.in_ok-second.ensures.value,
-      sym c.same_geometry.ensures ∙ c.if-not-same_geometry.false,
-      sym c.same_geometry-2.ensures ∙ c.if-not-same_geometry-2.false,
-      sym c.frame_fits.ensures ∙ c.if-not-frame_fits.false,
-      sym c.frame_fits-2.ensures ∙ c.if-not-frame_fits-2.false,
-    )
+    rw (is_there _ _ _ c.as_ref.ensures.value c.in_ok-first.ensures.value, is_there _ _ _ c.as_ref-2.ensures.value c.in_ok-second.ensures.value)
+    (grind (arith, common_steps))
