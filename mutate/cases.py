@@ -131,6 +131,10 @@ use Rattle.laws.specs.Tabulate.{tabulate}
 use Rattle.combine_predictions.specs.Refusals.{answered, value_unless, unless_refused, refusal_number}
 """
 
+LENT = """-- a plane with its samples; where these lie says nothing
+abbrev plane : ℕ → ℕ → List ℕ → ReferencePlane
+plane w h samples = record { sides = record { width = w; height = h }; samples = record { ref_ptr = (0, 0); now = samples } }"""
+
 FILLED = """-- what a buffer of n bytes holds before a call
 abbrev filled : ℕ → ℕ → List ℕ
 filled first n = tabulate n (λ (k : ℕ). (first + k) % 256)"""
@@ -188,6 +192,8 @@ use Rattle.forming_predictions.specs.Lines.{frame, field, field_lines, clamp_to,
 use Rattle.forming_predictions.specs.Means.{rounded}
 use Rattle.forming_predictions.specs.Forming.{combined, formed, block_of, predicted_block}
 use Rattle.forming_predictions.specs.Refusals.{forming_number, plane_fits, position_fits, block_side_fits, plane_refusal, sample_refusal, block_refusal}
+use Rattle.forming_predictions.specs.Planes.{lines_by, read_at, plane_refused, sample_refused, block_refused}
+use Rattle.forming_predictions.specs.declared.ReferencePlane.{ReferencePlane}
 use Rattle.forming_predictions.specs.declared.ComponentSplit.{ComponentSplit}
 use Rattle.forming_predictions.specs.declared.FieldParity.TheVariants.{Top, Bottom}
 use Rattle.forming_predictions.specs.declared.HalfPattern.TheVariants.{Integer, HalfHorizontal, HalfVertical, HalfBoth}
@@ -196,7 +202,9 @@ use Rattle.forming_predictions.specs.declared.FormingRefusal.TheVariants as Form
         "tabulate floor_half half_flag field_lines clamp_to row_of sample_at combined formed block_of plane_fits position_fits block_side_fits "
         "sample_refusal block_refusal",
     )
+    m.define(LENT)
     m.define(FILLED)
+    m.case("lines_by None ≡ frame", "lines_by (Some Top) ≡ field Top", "lines_by (Some Bottom) ≡ field Bottom")
     cases = read_list(repository, "forming_predictions")
     patterns = ["Integer", "HalfHorizontal", "HalfVertical", "HalfBoth"]
     plane, planes = (0, 0, []), {}
@@ -227,7 +235,7 @@ use Rattle.forming_predictions.specs.declared.FormingRefusal.TheVariants as Form
         key = (w, h, bytes(samples))
         if key not in planes:
             planes[key] = f"plane{len(planes)}"
-            m.define(f"abbrev {planes[key]} : List ℕ\n{planes[key]} = {lst(samples)}")
+            m.define(f"abbrev {planes[key]} : ReferencePlane\n{planes[key]} = plane {w} {h} {lst(samples)}")
         return planes[key]
 
     def shape(x):
@@ -238,7 +246,7 @@ use Rattle.forming_predictions.specs.declared.FormingRefusal.TheVariants as Form
     few = lambda x: len(x[2][2]) <= 600
     for x in selection([x for x in kind("7") if few(x)], lambda x: shape(x) + (x[1][4],), 1, 70):
         group, c, (w, h, s) = x
-        refusal, value = f"(plane_refusal {w} {h} {len(s)})", f"(sample_at {LINES[c[1]]} {w} {h} {named(x[2])} {z(c[2])} {z(c[3])})"
+        refusal, value = f"(plane_refused {named(x[2])})", f"(read_at {LINES[c[1]]} {named(x[2])} {z(c[2])} {z(c[3])})"
         m.case(
             f"answered {refusal} {value} ≡ {said('FormingRefusal', c[4], c[5])}",
             f"refusal_number forming_number {refusal} ≡ {c[4]}",
@@ -247,8 +255,8 @@ use Rattle.forming_predictions.specs.declared.FormingRefusal.TheVariants as Form
     halves = lambda c: (int(c[4]) % 2, int(c[5]) % 2)
     for x in selection([x for x in kind("8") if few(x)], lambda x: (x[1][1], x[1][6], halves(x[1]), x[0], int(x[1][4]) < 0), 1, 90):
         group, c, (w, h, s) = x
-        value = f"formed rounded (sample_at {LINES[c[1]]} {w} {h} {named(x[2])}) {z(c[2])} {z(c[3])} {z(c[4])} {z(c[5])}"
-        call = f"answered (sample_refusal {w} {h} {len(s)} {z(c[2])} {z(c[3])}) ({value})"
+        value = f"formed rounded (read_at {LINES[c[1]]} {named(x[2])}) {z(c[2])} {z(c[3])} {z(c[4])} {z(c[5])}"
+        call = f"answered (sample_refused {named(x[2])} {z(c[2])} {z(c[3])}) ({value})"
         m.case(f"{call} ≡ {said('FormingRefusal', c[6], c[7])}")
     numbers = lambda x: (len(x[2][2]), x[2][0], x[2][1], tuple(x[1][2:4]))
     for x in selection(kind("8"), lambda x: (x[1][6],) + numbers(x) if x[0] in "klmo" else None, 1, 90):
@@ -261,8 +269,8 @@ use Rattle.forming_predictions.specs.declared.FormingRefusal.TheVariants as Form
     small = lambda x: few(x) and int(x[1][9]) <= 40
     for x in selection([x for x in kind("9") if small(x)], lambda x: (x[1][1], x[1][10], block(x[1]), x[0]), 1, 60):
         group, c, (w, h, s) = x
-        call = f"block_refusal {w} {h} {len(s)} {z(c[2])} {z(c[3])} {c[4]} {c[5]} {c[9]}"
-        value = f"predicted_block rounded (sample_at {LINES[c[1]]} {w} {h} {named(x[2])}) {c[4]} {c[5]} {z(c[2])} {z(c[3])} {z(c[6])} {z(c[7])}"
+        call = f"block_refused {named(x[2])} {z(c[2])} {z(c[3])} {c[4]} {c[5]} {c[9]}"
+        value = f"predicted_block rounded (read_at {LINES[c[1]]} {named(x[2])}) {c[4]} {c[5]} {z(c[2])} {z(c[3])} {z(c[6])} {z(c[7])}"
         if int(c[4]) * int(c[5]) > 64:
             value = "[]"
         after = f"unless_refused ({call}) ({value}) (filled {c[8]} {c[9]})"
@@ -441,19 +449,20 @@ use Rattle.forming_predictions.specs.Lines.{field_lines, clamp_to, row_of, sampl
 use Rattle.forming_predictions.specs.Forming.{combined, formed}
 use Rattle.forming_predictions.specs.Means.{rounded}
 use Rattle.forming_predictions.specs.Refusals.{plane_fits}
+use Rattle.forming_predictions.specs.declared.ReferencePlane.{ReferencePlane}
 use Rattle.forming_predictions.specs.declared.FieldParity.TheVariants as FieldParity
 use Rattle.forming_predictions.specs.declared.FieldParity.{FieldParity}
 use Rattle.pmv.specs.Chroma.{trunc_half}
 use Rattle.pmv.specs.declared.kinds.ChromaFormat.TheVariants as ChromaFormat
 use Rattle.pmv.specs.declared.kinds.ChromaFormat.{ChromaFormat}
 use Rattle.inter_reconstruction.specs.Components.{ColourComponent, luma, cb, cr}
-use Rattle.inter_reconstruction.specs.Frames.{Samples, samples_of, lengths_of, read_reference}
 use Rattle.inter_reconstruction.specs.Motion.{remaining, frame_wanted, field_wanted, frame_uses, field_uses}
 use Rattle.inter_reconstruction.specs.Macroblock.{field_sample, direction_sample, used_sample, rectangle, macroblock, predicted}
 use Rattle.inter_reconstruction.specs.Refusals.{prediction_number, same_geometry, planes_fit, prediction_refusal}
-use Rattle.inter_reconstruction.specs.Answers.{prediction_directions, accepted}
+use Rattle.inter_reconstruction.specs.Answers.{prediction_directions, accepted, refusal_among, refusal_from, prediction_from}
 use Rattle.inter_reconstruction.specs.declared.motion.UsedDirections.TheVariants as Used
 use Rattle.inter_reconstruction.specs.declared.frames.FrameGeometry.{FrameGeometry}
+use Rattle.inter_reconstruction.specs.declared.frames.FrameSides.{FrameSides}
 use Rattle.inter_reconstruction.specs.declared.frames.FrameBuffer.{FrameBuffer}
 use Rattle.inter_reconstruction.specs.declared.macroblock.PredictionRefusal.TheVariants as PredictionRefusal
 use Rattle.inter_reconstruction.specs.declared.motion.MotionVectorPel.{MotionVectorPel}
@@ -468,11 +477,17 @@ FRAMES_UNFOLDING = (
 FRAMES_HELP = """abbrev geometry : ℕ → ℕ → ChromaFormat → FrameGeometry
 geometry w h f = record { width = w; height = h; chroma_format = f }
 
-abbrev buffer : FrameGeometry → ℕ → ℕ → ℕ → ℕ → ℕ → ℕ → FrameBuffer
-buffer g yw yh bw bh rw rh = record { geometry = g; y = record { width = yw; height = yh }; cb = record { width = bw; height = bh }; cr = record { width = rw; height = rh } }
+abbrev sides : FrameGeometry → ℕ → ℕ → ℕ → ℕ → ℕ → ℕ → FrameSides
+sides g yw yh bw bh rw rh = record { geometry = g; y = record { width = yw; height = yh }; cb = record { width = bw; height = bh }; cr = record { width = rw; height = rh } }
 
-abbrev absent : Option FrameBuffer
+abbrev absent : Option FrameSides
 absent = None
+
+abbrev buffer : FrameGeometry → ReferencePlane → ReferencePlane → ReferencePlane → FrameBuffer
+buffer g y b r = record { geometry = g; y = y; cb = b; cr = r }
+
+abbrev no_buffer : Option FrameBuffer
+no_buffer = None
 
 abbrev vector : ℤ → ℤ → MotionVectorPel
 vector h v = record { horizontal = h; vertical = v }
@@ -543,6 +558,7 @@ def small_motion(x):
 
 def macroblocks(repository):
     m = Module(FRAMES_HEAD, FRAMES_UNFOLDING)
+    m.define(LENT)
     m.define(FRAMES_HELP)
     m.define(FILLED)
     calls = Macroblocks(repository)
@@ -552,15 +568,23 @@ def macroblocks(repository):
         key = tuple(p)
         if key not in planes:
             planes[key] = f"planes{len(planes)}"
-            y, b, r = Macroblocks.samples(p)
-            m.define(f"abbrev {planes[key]} : Samples\n{planes[key]} = samples_of {lst(y)} {lst(b)} {lst(r)}")
+            three = " ".join(f"(plane {p[3 * k]} {p[3 * k + 1]} {lst(samples)})" for k, samples in enumerate(Macroblocks.samples(p)))
+            m.define(f"abbrev {planes[key]} : FrameGeometry → FrameBuffer\n{planes[key]} g = buffer g {three}")
         return planes[key]
 
+    def geometry(c):
+        return f"(geometry {c[0]} {c[1]} {kind_of('ChromaFormat', c[2])})"
+
+    # a reference without samples; with those that the list gives it; with as many, all alike
     def reference(c, p):
-        if c[0] == "0":
-            return "absent"
-        g = f"(geometry {c[1]} {c[2]} {kind_of('ChromaFormat', c[3])})"
-        return f"(Some (buffer {g} {' '.join(map(str, Macroblocks.sides(p)))}))"
+        return "absent" if c[0] == "0" else f"(Some (sides {geometry(c[1:])} {' '.join(map(str, Macroblocks.sides(p)))}))"
+
+    def held(c, p):
+        return "no_buffer" if c[0] == "0" else f"(Some ({named(p)} {geometry(c[1:])}))"
+
+    def grey(c, p):
+        three = " ".join(f"(plane {p[k]} {p[k + 1]} (replicate {p[k + 2]} 7))" for k in (0, 3, 6))
+        return "no_buffer" if c[0] == "0" else f"(Some (buffer {geometry(c[1:])} {three}))"
 
     def parts(c):
         if c[0] == "2":
@@ -573,20 +597,31 @@ def macroblocks(repository):
     def tail(c):
         return c[20:] if c[0] == "2" else c[28:]
 
-    def call(c, f, b, fn, bn):
+    no_planes = [0] * 10
+
+    def call(c, f, b):
+        """the refusal from sides and lengths, the directions used, and the rest of the line"""
         uses, rest = parts(c)
-        dest = f"(geometry {c[1]} {c[2]} {kind_of('ChromaFormat', c[3])})"
+        f, b = f or no_planes, b or no_planes
         forward, backward = reference(c[4:8], f), reference(c[8:12], b)
         u = f"({uses} (is_some {forward}) (is_some {backward}))"
-        refusal = f"prediction_refusal {dest} {rest[1]} {forward} {fn} {backward} {bn} {u} {c[12]} {c[13]}"
-        return refusal, dest, forward, backward, u, rest
+        lengths = [f"(lengths {p[2]} {p[5]} {p[8]})" for p in (f, b)]
+        refusal = f"prediction_refusal {geometry(c[1:])} {rest[1]} {forward} {lengths[0]} {backward} {lengths[1]} {u} {c[12]} {c[13]}"
+        return refusal, u, rest
 
-    numbers = lambda p: f"(lengths {p[2]} {p[5]} {p[8]})"
-    no_planes = [0] * 10
+    def call_by(c, forward, backward):
+        """the same from references that hold their samples; the refusal of these alone; the macroblock"""
+        uses, rest = parts(c)
+        u = f"({uses} (is_some {forward}) (is_some {backward}))"
+        refusal = f"refusal_from {geometry(c[1:])} {rest[1]} {forward} {backward} {u} {c[12]} {c[13]}"
+        among = f"refusal_among {geometry(c[1:])} {forward} {backward} {u}"
+        return refusal, among, f"prediction_from {kind_of('ChromaFormat', c[3])} {forward} {backward} {u} {c[12]} {c[13]}", rest
+
+    few = lambda x: sum(Macroblocks.size(p) for p in x[2:] if p) <= 2100
     # what is refused, from numbers alone
     signature = lambda x: (x[0], x[1][0], tail(x[1])[2], tuple(x[1][1:14]), tuple(x[2] or [])[:9], tuple(x[3] or [])[:9])
     for group, c, f, b in selection(calls.calls, lambda x: signature(x) if x[0] in "abdemnqrstw" else None, 1, 260):
-        refusal, _, _, _, u, rest = call(c, f or no_planes, b or no_planes, numbers(f or no_planes), numbers(b or no_planes))
+        refusal, u, rest = call(c, f, b)
         answer = int(rest[2])
         used = "" if answer else USED[rest[3]]
         told = f"(answered ({refusal}) (accepted {u}))"
@@ -597,24 +632,27 @@ def macroblocks(repository):
             f"prediction_directions {told} ≡ {optional(answer, used)}",
             f"remaining ({wanted[1:-1]} ≡ {u}",
         )
+        if few((group, c, f, b)):
+            refusal, among, _, _ = call_by(c, grey(c[4:8], f), grey(c[8:12], b))
+            # 13 and 18 are of the cell and of the output
+            numbers = [f"refusal_number prediction_number ({r}) ≡ {answer}" for r in ([refusal] if answer in (13, 18) else [refusal, among])]
+            m.case(*numbers)
     several = selection([x for x in calls.calls if x[0] == "u"], lambda x: tuple(x[1][1:14]) + tuple(tail(x[1])[1:3]), 1, 150)
     several += selection([x for x in calls.calls if x[0] == "v"], lambda x: 0, len(calls.calls), len(calls.calls))
     for group, c, f, b in several:
-        refusal, _, _, _, _, rest = call(c, f or no_planes, b or no_planes, numbers(f or no_planes), numbers(b or no_planes))
+        refusal, _, rest = call(c, f, b)
         m.case(f"refusal_number prediction_number ({refusal}) ≡ {rest[2]}")
     # and samples, some of each macroblock
-    small = [x for x in calls.calls if x[2] and x[3] and Macroblocks.size(x[2]) + Macroblocks.size(x[3]) <= 2100 and tail(x[1])[2] == "0"]
+    small = [x for x in calls.calls if x[2] and x[3] and few(x) and tail(x[1])[2] == "0"]
     directions = lambda c: (c[14], c[17] if c[0] == "2" else c[21])
     halves = lambda c: (int(c[15]) % 4, int(c[16]) % 4)
     taken = selection([x for x in small if x[0] in "ceghj"], lambda x: (x[0], x[1][0], x[1][3], directions(x[1])), 1, 40)
     taken += selection([x for x in small if x[0] in "dkp"], lambda x: (x[1][0], directions(x[1]), halves(x[1])), 1, 20)
     for n, (group, c, f, b) in enumerate(taken):
-        fp, bp = named(f), named(b)
-        refusal, dest, forward, backward, u, rest = call(c, f, b, f"(lengths_of {fp})", f"(lengths_of {bp})")
+        refusal, _, value, rest = call_by(c, held(c[4:8], f), held(c[8:12], b))
         after = hexed(rest[4])
         if not after:
             continue
-        value = f"predicted rounded {dest}.chroma_format (read_reference {forward} {fp}) (read_reference {backward} {bp}) {u} {c[12]} {c[13]}"
         m.define(f"abbrev block{n} : List ℕ\nblock{n} = unless_refused ({refusal}) ({value}) (filled {rest[0]} {rest[1]})")
         chroma = (len(after) - 256) // 2
         spots = [0, 17 + n % 7, 256 + n % chroma, 256 + chroma - 1, 256 + chroma + (11 * n) % chroma, len(after) - 1, (37 * n) % 256]
@@ -636,7 +674,7 @@ use Rattle.inter_reconstruction.specs.Frames.{Samples, samples_of}
 use Rattle.inter_reconstruction.specs.Refusals.{planes_fit}
 use Rattle.inter_reconstruction.specs.Placing.{stored, placed, picture_fits, well_formed, placing_refusal, placing_number}
 use Rattle.inter_reconstruction.specs.declared.frames.FrameGeometry.{FrameGeometry}
-use Rattle.inter_reconstruction.specs.declared.frames.FrameBuffer.{FrameBuffer}
+use Rattle.inter_reconstruction.specs.declared.frames.FrameSides.{FrameSides}
 use Rattle.inter_reconstruction.specs.declared.placing.PlacingRefusal.TheVariants as PlacingRefusal
 """,
         "tabulate stored plane_fits planes_fit picture_fits well_formed",
@@ -648,7 +686,7 @@ use Rattle.inter_reconstruction.specs.declared.placing.PlacingRefusal.TheVariant
     m.define("abbrev grey : ℕ → ℕ → ℕ → Samples\ngrey a b c = samples_of (replicate a 7) (replicate b 7) (replicate c 7)")
 
     def picture(c):
-        return f"(buffer (geometry {c.w} {c.h} {kind_of('ChromaFormat', c.format)}) {' '.join(map(str, c.sides))})"
+        return f"(sides (geometry {c.w} {c.h} {kind_of('ChromaFormat', c.format)}) {' '.join(map(str, c.sides))})"
 
     for c in placing.accepted():
         counts = " ".join(map(str, c.counts))
@@ -685,6 +723,7 @@ def entries(repository):
 use Rattle.std.specs.Result.{result_err}
 use Rattle.forming_predictions.specs.declared.FieldParity.TheVariants as FieldParity
 use Rattle.pmv.specs.declared.predictors.PredictorPair.{PredictorPair}
+use Rattle.forming_predictions.specs.Parities as Parities
 use Rattle.pmv.specs.Kinds as Kinds
 use Rattle.entry_points.specs.Layout.{signed_of, word_of, bytes_of, number_at, predictors_of, numbers_bytes, predictor_bytes, pair_bytes, with_pair}
 use Rattle.entry_points.specs.Entries.{call_number, unless_number, is_yes, vector_known, update_known, residual_of, type_of, index_of, direction_of, format_of, structure_of, motion_vector_of, vector_from, vector_bytes, context_of, frame_known, field_known, reference_known, fields_known, geometry_of, reference_of, frame_direction_of, field_vector_of, field_direction_of, frame_motion_of, field_motion_of}
@@ -700,15 +739,16 @@ use Rattle.inter_reconstruction.specs.Refusals.{prediction_number}
     numbers = header_numbers(repository)
     for name, (c_name, values) in HEADER.items():
         short = KINDS[name][1]
+        found = f"{'Parities' if name == 'FieldParity' else 'Kinds'}.{short}_from"
         for value, c_value in zip(KINDS[name][0], values):
             n = numbers[c_name][c_value]
             equations = [] if name == "FieldParity" else [f"Kinds.{short}_number {name}.{value} ≡ {n}"]
             if name != "Component":
-                equations.append(f"Kinds.{short}_from {n} ≡ Some {name}.{value}")
+                equations.append(f"{found} {n} ≡ Some {name}.{value}")
             m.case(*equations)
         if name != "Component":
             for n in (len(values), len(values) + 1, 2**32 - 1):
-                m.case(f"Kinds.{short}_from {n} ≡ None")
+                m.case(f"{found} {n} ≡ None")
     for n, value in ((numbers["flag"]["NO"], "false"), (numbers["flag"]["YES"], "true")):
         m.case(f"Kinds.flag_from {n} ≡ Some {value}", f"is_yes {n} ≡ {value}")
     for n in (2, 3, 256, 257):

@@ -39,13 +39,17 @@ RATHER = {
 # The crates whose definitions are mutated, and the modules of cases that judge each, its own first, and of these the small ones.
 CASES = {
     "combine_predictions": ["Averaging", "FormingFew", "VectorsFew", "Worked", "Forming", "Vectors", "Entries", "Macroblocks", "Placing", "Runs"],
-    "forming_predictions": ["FormingFew", "Forming", "Worked", "Vectors", "Macroblocks", "Placing", "Runs"],
+    "forming_predictions": ["FormingFew", "Forming", "Worked", "Vectors", "Entries", "Macroblocks", "Placing", "Runs"],
     "pmv": ["VectorsFew", "Vectors", "Entries", "Worked", "Macroblocks", "Runs"],
     "inter_reconstruction": ["MacroblocksFew", "PlacingFew", "Macroblocks", "Placing", "RunsFew", "Runs", "Entries"],
     "entry_points": ["EntriesFew", "Entries"],
     "drift": ["StepsFew", "Steps", "RunsFew", "Runs"],
 }
-FIRST = {"inter_reconstruction/specs/Placing.antt": "PlacingFew", "pmv/specs/Kinds.antt": "Entries"}
+FIRST = {
+    "forming_predictions/specs/Parities.antt": "Entries",
+    "inter_reconstruction/specs/Placing.antt": "PlacingFew",
+    "pmv/specs/Kinds.antt": "Entries",
+}
 # the crates whose definitions a module of cases needs: as few as can be, since each check reads them
 LAYERS = ["laws", "combine_predictions", "forming_predictions", "pmv", "inter_reconstruction"]
 NEEDS = {
