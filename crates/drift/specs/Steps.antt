@@ -60,8 +60,8 @@ fitting_plane g c = record { width = columns_of g.chroma_format c g.width; heigh
 abbrev pub fitting : FrameGeometry → FrameSides
 fitting g = record { geometry = g; y = fitting_plane g luma; cb = fitting_plane g cb; cr = fitting_plane g cr }
 
--- a reference as the calls get it: the frame, and beside it the samples of its planes. Beside a reference that is absent nothing is read, and
--- any samples would do
+-- a reference as the calls get it: a frame's sides, and the samples of its planes. Of one that is absent nothing is read, and any samples
+-- would do
 abbrev pub reference : FrameGeometry → Option ℕ → Option FrameSides
 reference g None = None
 reference g (Some j) = Some (fitting g)

@@ -5,7 +5,7 @@ ghost use Rattle.std.specs.Prelude.{◌≡◌, ◌*◌};
 ghost use Rattle.drift.specs.Drift.{DriftWithin, DriftFigure};
 
 /// A bound in quarters of a grey step.
-#[derive(Clone, Copy)]
+#[derive(Clone, Copy, Debug, PartialEq, Eq)]
 pub struct DriftBound {
     pub above: u64,
     pub below: u64,

@@ -12,7 +12,7 @@ use Rattle.combine_predictions.proofs.Answers.{refusal_of}
 use Rattle.inter_reconstruction.specs.Components.{ColourComponent, macroblock_bytes}
 use Rattle.inter_reconstruction.specs.Motion.{remaining, BackwardAlone}
 use Rattle.inter_reconstruction.specs.Refusals.{too_far, cell_refusal, same_geometry, planes_fit, geometry_refusal, planes_refusal, references_refusal, prediction_refusal}
-use Rattle.inter_reconstruction.specs.Frames.{reference_sides, reference_lengths}
+use Rattle.inter_reconstruction.specs.Frames.{given_sides, given_lengths}
 use Rattle.inter_reconstruction.specs.Answers.{accepted, directions_of, prediction_directions, refusal_from}
 use Rattle.inter_reconstruction.specs.declared.frames.FrameBuffer.{FrameBuffer}
 use Rattle.inter_reconstruction.specs.declared.frames.FrameGeometry.{FrameGeometry}
@@ -144,12 +144,12 @@ module _ (dest : FrameGeometry) (out : ℕ) (f b : Option FrameSides) (n k : Col
       m)
 
 -- ---- by references that hold their samples
-there : (r : Option FrameBuffer) → is_some (reference_sides r) ≡ is_some r
+there : (r : Option FrameBuffer) → is_some (given_sides r) ≡ is_some r
 there None = refl
 there (Some b) = refl
 
 module _ (dest : FrameGeometry) (out : ℕ) (f b : Option FrameBuffer) (u : Uses) (col row : ℕ) where
-  by_presence : remaining u (is_some (reference_sides f)) (is_some (reference_sides b)) ≡ remaining u (is_some f) (is_some b)
+  by_presence : remaining u (is_some (given_sides f)) (is_some (given_sides b)) ≡ remaining u (is_some f) (is_some b)
   by_presence = rw (there f, there b)
 
   pub given_before : (r : Result Accepted PredictionRefusal) (o old : List ℕ) (w : Uses → List ℕ)
@@ -158,7 +158,7 @@ module _ (dest : FrameGeometry) (out : ℕ) (f b : Option FrameBuffer) (u : Uses
       → refusal_from dest out f b u col row ≡ None
       → (r ≡ Ok (accepted u)) × (o ≡ w u)
   given_before r o old w a v e =
-      as_before dest out (reference_sides f) (reference_sides b) (reference_lengths f) (reference_lengths b) u col row r o old w
+      as_before dest out (given_sides f) (given_sides b) (given_lengths f) (given_lengths b) u col row r o old w
       (rw by_presence a) (rw by_presence v) e
 
   pub given_17 : (r : Result Accepted PredictionRefusal)
@@ -166,4 +166,4 @@ module _ (dest : FrameGeometry) (out : ℕ) (f b : Option FrameBuffer) (u : Uses
       → result_err r ≡ Some BackwardMissing
       → BackwardAlone u × (is_some b ≡ false)
   given_17 r a e =
-      rw (there b) at (alone_17 dest out (reference_sides f) (reference_sides b) (reference_lengths f) (reference_lengths b) u col row r (rw by_presence a) e)
+      rw (there b) at (alone_17 dest out (given_sides f) (given_sides b) (given_lengths f) (given_lengths b) u col row r (rw by_presence a) e)

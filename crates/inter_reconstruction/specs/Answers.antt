@@ -2,7 +2,7 @@
 use Rattle.std.specs.Prelude.{List, ℕ, Option, Some, None, Result, Ok, Err}
 use Rattle.forming_predictions.specs.Means.{rounded}
 use Rattle.pmv.specs.declared.kinds.ChromaFormat.{ChromaFormat}
-use Rattle.inter_reconstruction.specs.Frames.{reference_sides, reference_lengths, reference_reading}
+use Rattle.inter_reconstruction.specs.Frames.{given_sides, given_lengths, given_reading}
 use Rattle.inter_reconstruction.specs.Macroblock.{predicted}
 use Rattle.inter_reconstruction.specs.Refusals.{references_refusal, prediction_refusal}
 use Rattle.inter_reconstruction.specs.declared.frames.FrameGeometry.{FrameGeometry}
@@ -31,12 +31,12 @@ accepted u = record { directions = directions_of u }
 
 -- what is refused of those that are used
 abbrev pub refusal_among : FrameGeometry → Option FrameBuffer → Option FrameBuffer → Uses → Option PredictionRefusal
-refusal_among dest f b = references_refusal dest (reference_sides f) (reference_lengths f) (reference_sides b) (reference_lengths b)
+refusal_among dest f b = references_refusal dest (given_sides f) (given_lengths f) (given_sides b) (given_lengths b)
 
 -- and of the whole call, with an output of n bytes
 abbrev pub refusal_from : FrameGeometry → ℕ → Option FrameBuffer → Option FrameBuffer → Uses → ℕ → ℕ → Option PredictionRefusal
-refusal_from dest n f b = prediction_refusal dest n (reference_sides f) (reference_lengths f) (reference_sides b) (reference_lengths b)
+refusal_from dest n f b = prediction_refusal dest n (given_sides f) (given_lengths f) (given_sides b) (given_lengths b)
 
 -- the macroblock's bytes
 abbrev pub prediction_from : ChromaFormat → Option FrameBuffer → Option FrameBuffer → Uses → ℕ → ℕ → List ℕ
-prediction_from f forward backward = predicted rounded f (reference_reading forward) (reference_reading backward)
+prediction_from f forward backward = predicted rounded f (given_reading forward) (given_reading backward)

@@ -57,16 +57,16 @@ abbrev pub frame_reading : FrameBuffer → ColourComponent → PlaneReading
 frame_reading b = read_frame (sides_of b) (samples_in b)
 
 -- a reference's, if it is there
-abbrev pub reference_sides : Option FrameBuffer → Option FrameSides
-reference_sides None = None
-reference_sides (Some b) = Some (sides_of b)
+abbrev pub given_sides : Option FrameBuffer → Option FrameSides
+given_sides None = None
+given_sides (Some b) = Some (sides_of b)
 
-abbrev pub reference_samples : Option FrameBuffer → Samples
-reference_samples None = λ (c : ColourComponent). []
-reference_samples (Some b) = samples_in b
+abbrev pub given_samples : Option FrameBuffer → Samples
+given_samples None = λ (c : ColourComponent). []
+given_samples (Some b) = samples_in b
 
-abbrev pub reference_lengths : Option FrameBuffer → ColourComponent → ℕ
-reference_lengths r = lengths_of (reference_samples r)
+abbrev pub given_lengths : Option FrameBuffer → ColourComponent → ℕ
+given_lengths r = lengths_of (given_samples r)
 
-abbrev pub reference_reading : Option FrameBuffer → ColourComponent → PlaneReading
-reference_reading r = read_reference (reference_sides r) (reference_samples r)
+abbrev pub given_reading : Option FrameBuffer → ColourComponent → PlaneReading
+given_reading r = read_reference (given_sides r) (given_samples r)

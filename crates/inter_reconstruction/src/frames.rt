@@ -1,6 +1,6 @@
 //! Frames as the calls see them.
 ghost use Rattle.std.specs.Prelude.{◌≡◌};
-ghost use Rattle.inter_reconstruction.specs.Components.{block_width, block_height, cb};
+ghost use Rattle.inter_reconstruction.specs.Components.{block_width, block_height, macroblock_bytes, cb};
 ghost use Rattle.inter_reconstruction.specs.Frames.{sides_of};
 
 use forming_predictions::{BlockSize, PlaneSides, ReferencePlane};
@@ -44,6 +44,15 @@ impl<'a> FrameBuffer<'a> {
             cr: self.cr.sides,
         }
     }
+}
+
+/// How many bytes a macroblock has.
+pub(crate) fn macroblock_bytes(chroma_format: ChromaFormat) -> usize
+    ensures { result ≡ macroblock_bytes chroma_format }
+{
+    let size = chroma_mb_extent(chroma_format);
+    let n = size.width * size.height;
+    256 + (n + n)
 }
 
 /// The sides of a macroblock's part in a chrominance plane.

@@ -6,14 +6,14 @@ ghost use Rattle.inter_reconstruction.specs.declared.motion.Uses.TheVariants.{Bo
 ghost use Rattle.inter_reconstruction.specs.declared.macroblock.PredictionRefusal.TheVariants.{BackwardMissing};
 ghost use Rattle.inter_reconstruction.specs.Components.{macroblock_bytes};
 ghost use Rattle.inter_reconstruction.specs.Motion.{wanted_by, uses_by, BackwardAlone};
-ghost use Rattle.inter_reconstruction.specs.Frames.{samples_of, lengths_of, sides_of, samples_in, reference_sides, reference_lengths, reference_reading};
+ghost use Rattle.inter_reconstruction.specs.Frames.{samples_of, lengths_of, sides_of, samples_in, given_sides, given_lengths, given_reading};
 ghost use Rattle.inter_reconstruction.specs.Refusals.{prediction_number, same_geometry, planes_fit, one_refusal};
 ghost use Rattle.inter_reconstruction.specs.Answers.{accepted, directions_of, prediction_directions, refusal_among, refusal_from, prediction_from};
 ghost use Rattle.inter_reconstruction.specs.inner.Planes.{directed, missing_in, destination_refusal};
 
 use crate::area::Cell;
 use crate::components::{predict_from_one, predict_from_two};
-use crate::frames::{FrameBuffer, FrameGeometry, FrameSides, chroma_mb_extent};
+use crate::frames::{FrameBuffer, FrameGeometry, FrameSides, macroblock_bytes};
 use crate::motion::{DirectionMotion, DirectionVectors, Motion, UsedDirections, Uses};
 use combine_predictions::PredictionDirection;
 use forming_predictions::plane_fits;
@@ -101,8 +101,8 @@ fn predict_alone(
     out: &mut [u8],
 ) -> Result<(), PredictionRefusal>
     requires { length out.old ≡ macroblock_bytes dest.chroma_format }
-    ensures answer { result ≡ answered (one_refusal (missing_in direction) dest (reference_sides reference.entry) (reference_lengths reference.entry)) tt }
-    ensures buffer { out.new ≡ unless_refused (result_err result) (directed dest.chroma_format (reference_reading reference.entry) motion cell.mb_col cell.mb_row) out.old }
+    ensures answer { result ≡ answered (one_refusal (missing_in direction) dest (given_sides reference.entry) (given_lengths reference.entry)) tt }
+    ensures buffer { out.new ≡ unless_refused (result_err result) (directed dest.chroma_format (given_reading reference.entry) motion cell.mb_col cell.mb_row) out.old }
 {
     let frame = reference.as_ref().ok_or(missing_in(direction))?;
     if !same_geometry(frame.geometry, dest) {
@@ -169,10 +169,7 @@ fn check_destination(
     if (LAST_CELL < mb_col) | (LAST_CELL < mb_row) {
         return Err(PredictionRefusal::CellTooFar);
     }
-    let chroma_format = dest.chroma_format;
-    let size = chroma_mb_extent(chroma_format);
-    let n = size.width * size.height;
-    if room != 256 + (n + n) {
+    if room != macroblock_bytes(dest.chroma_format) {
         return Err(PredictionRefusal::WrongLength);
     }
     Ok(())

@@ -8,7 +8,7 @@ ghost use Rattle.inter_reconstruction.specs.Placing.{place_at, stored, placed, w
 ghost use Rattle.inter_reconstruction.specs.inner.Placing.{Room, Placeable};
 
 use crate::area::{Area, Cell};
-use crate::frames::{FrameGeometry, FrameSides, chroma_mb_extent};
+use crate::frames::{FrameGeometry, FrameSides, macroblock_bytes};
 use crate::macroblock::planes_fit;
 use crate::samples::copy_samples;
 use forming_predictions::{LARGEST_SIDE, PlaneSides};
@@ -146,10 +146,7 @@ fn check_placing(
     if !(well_formed(picture) & cell_inside(geometry, mb_col, mb_row)) {
         return Err(PlacingRefusal::IllFormed);
     }
-    let chroma_format = geometry.chroma_format;
-    let size = chroma_mb_extent(chroma_format);
-    let n = size.width * size.height;
-    if bytes != 256 + (n + n) {
+    if bytes != macroblock_bytes(geometry.chroma_format) {
         return Err(PlacingRefusal::WrongLength);
     }
     Ok(())

@@ -4,7 +4,7 @@ ghost use Rattle.std.specs.Prelude.{◌≡◌, ok_or};
 ghost use Rattle.forming_predictions.specs.Parities.{no_meaning};
 ghost use Rattle.pmv.specs.Kinds.{component_number, direction_number, direction_from, index_number, index_from, format_number, format_from, structure_number, structure_from, type_number, type_from, coding_number, chroma_number, chroma_from, flag_from, is_vertical, is_field_format, is_frame_picture, is_inter_picture};
 
-use forming_predictions::NoMeaning;
+pub use forming_predictions::NoMeaning;
 
 /// `t` of Table 7-7.
 #[derive(Clone, Copy, Debug, PartialEq, Eq)]
