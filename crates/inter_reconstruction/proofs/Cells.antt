@@ -2,21 +2,21 @@
 -- Assumes nothing.
 use mathlib.Core.Path.{◌≡◌, refl, ◌∙◌}
 use mathlib.Core.List.{List, ◌++◌, append_assoc}
-use Prim.Native.Nat.{ℕ, zero, suc, ◌+◌, ◌*◌, ◌%◌, ◌≤◌}
-use native.Mathlib.Nat.{mul-le-mul, zero-mul, suc-mul}
+use Prim.Native.Nat.{ℕ, zero, suc, ◌+◌, ◌*◌, ◌%◌}
+use native.Mathlib.Nat.{zero-mul, suc-mul}
 use native.Mathlib.Omega.{arith}
 use Rattle.forming_predictions.specs.Means.{rounded}
 use Rattle.pmv.specs.declared.kinds.ChromaFormat.{ChromaFormat}
 use Rattle.pmv.specs.declared.kinds.ChromaFormat.TheVariants.{Yuv420, Yuv422, Yuv444}
 use Rattle.inter_reconstruction.specs.declared.motion.Uses.{Uses}
-use Rattle.inter_reconstruction.specs.Components.{ColourComponent, luma, cb, cr, block_width, block_height, block_bytes, macroblock_bytes}
+use Rattle.inter_reconstruction.specs.Components.{ColourComponent, luma, cb, cr, block_width, block_height, block_bytes}
 use Rattle.inter_reconstruction.specs.Motion.{chroma_uses}
 use Rattle.inter_reconstruction.specs.Frames.{PlaneReading}
 use Rattle.inter_reconstruction.specs.Macroblock.{used_sample, rectangle, part, macroblock, predicted}
-use Rattle.inter_reconstruction.specs.inner.Blocks.{AreaFits, FieldRows, ChromaSides}
+use Rattle.inter_reconstruction.specs.inner.Blocks.{FieldRows, ChromaSides}
 use Rattle.inter_reconstruction.specs.inner.Areas.{PartAt}
 use Rattle.inter_reconstruction.specs.declared.area.Area.{Area}
-use Rattle.inter_reconstruction.specs.inner.Planes.{CellFits, BlocksFit}
+use Rattle.inter_reconstruction.specs.inner.Planes.{CellFits}
 
 -- the chrominance's sides, for all formats
 chroma_sides : (f : ChromaFormat) → ChromaSides (block_width f cb) (block_height f cb)
@@ -29,23 +29,7 @@ even_multiple : (r h : ℕ) → h % 2 ≡ 0 → r * h % 2 ≡ 0
 even_multiple zero h e = rw (zero-mul h)
 even_multiple (suc r) h e = let p = even_multiple r h e in omega (arith, suc-mul r h)
 
--- three local blocks are for a cell
-pub cell_of : {f : ChromaFormat} {col row a b r : ℕ} → BlocksFit f col row a b r → CellFits f col row (macroblock_bytes f)
-cell_of h = record { column = h.column; line = h.line; count = refl }
-
 -- ---- the luminance
-pub luma_fits : {col row : ℕ} → col ≤ 1023 → row ≤ 1023 → AreaFits (col * 16) (row * 16) 16 16
-luma_fits p q =
-    record {
-      left = omega (arith, p);
-      top = omega (arith, q);
-      some = omega arith;
-      wide = omega arith;
-      eights = refl;
-      tall = omega arith;
-      high = omega arith;
-    }
-
 pub luma_rows : (row : ℕ) → FieldRows (row * 16) 16
 luma_rows row = record { first = omega arith; even = refl }
 
@@ -54,26 +38,11 @@ module _ (f : ChromaFormat) {w h : ℕ} (ew : w ≡ block_width f cb) (eh : h �
   sides : ChromaSides w h
   sides = rw (ew, eh) (chroma_sides f)
 
-  pub chroma_bytes : w * h ≡ block_bytes f cb
-  chroma_bytes = rw (ew, eh)
-
   pub chroma_rows : (row : ℕ) → FieldRows (row * h) h
   chroma_rows row = record { first = even_multiple row h sides.even; even = sides.even }
 
   pub chroma_total : {col row n : ℕ} → CellFits f col row n → n ≡ 256 + (w * h + w * h)
   chroma_total c = rw (ew, eh) c.count
-
-  pub chroma_fits : {col row : ℕ} → col ≤ 1023 → row ≤ 1023 → AreaFits (col * w) (row * h) w h
-  chroma_fits p q =
-      record {
-        left = mul-le-mul p sides.wide;
-        top = mul-le-mul q sides.high;
-        some = omega (arith, sides.wide_lo);
-        wide = sides.wide;
-        eights = sides.eights;
-        tall = omega (arith, sides.high_lo);
-        high = sides.high;
-      }
 
 -- ---- a part by its area
 module _ {f : ChromaFormat} {c : ColourComponent} {col row : ℕ} {at : Area} (k : PartAt f c col row at) where
