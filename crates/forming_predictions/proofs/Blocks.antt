@@ -1,25 +1,23 @@
 -- Laws of blocks, and of their rows.
 -- Assumes nothing.
-use mathlib.Core.Path.{◌≡◌, refl, sym, ap, ◌∙◌}
-use mathlib.Core.Bool.{true}
+use mathlib.Core.Path.{◌≡◌, sym, ap, ◌∙◌}
 use mathlib.Core.List.{List}
 use Prim.Native.Nat.{ℕ, ◌+◌, ◌-◌, ◌*◌, ◌/◌, ◌%◌, ◌≤◌, ◌<◌}
 use native.Mathlib.Nat.{zero-add, add_assoc, one-mul, mul_comm, mul_assoc, mul-add, add-mul, mod-lt, div-lt_iff_lt-mul}
 use native.Mathlib.Omega.{arith}
 use lib.Arith.{digits_lt, digits_div, digits_mod}
-use lib.IntN.{ℤ, pos, negsuc, ◌+ℤ◌, +ℤ_assoc}
+use lib.IntN.{ℤ, pos, ◌+ℤ◌, +ℤ_assoc}
 use lib.ListN.{length, get_or, take, drop}
 use lib.Seq.{length-take-le}
-use borrow.Author.Tests.{leb-true}
 use Rattle.laws.specs.Tabulate.{tabulate}
-use Rattle.laws.proofs.Signed.{zp, zn, eq_z, add_z}
+use Rattle.laws.proofs.Signed.{eq_z, add_z}
 use Rattle.laws.proofs.Rows.{row_in}
 use Rattle.laws.proofs.Tabulated.{tab_ext, length_tab, get_or_tab}
 use Rattle.laws.proofs.Parts.{part_length, part_at}
 use Rattle.forming_predictions.specs.Lines.{clamp_to}
 use Rattle.forming_predictions.specs.Means.{mean4}
 use Rattle.forming_predictions.specs.Forming.{block_of}
-use Rattle.forming_predictions.specs.inner.Views.{line_start, view_read, spread, four_of, clamped_of, line_cell, picked, column_at, inside_of, ViewFits, SidesFit, Inside, ColumnsFit}
+use Rattle.forming_predictions.specs.inner.Views.{line_start, view_read, spread, four_of, clamped_of, line_cell, picked, column_at, ViewFits, SidesFit, Inside, ColumnsFit}
 use Rattle.forming_predictions.proofs.Lines.{clamp_in, clamp_lt}
 use Rattle.forming_predictions.proofs.RowMeans.{mean4_same}
 
@@ -56,12 +54,6 @@ module _ {s : List ℕ} {w first step count x y dx dy n : ℕ} (f : ViewFits s w
 
   abbrev below : ℕ
   below = line_start first step w (y + dy)
-
-  pub same_rows : {a b : ℕ} → a ≡ here → b ≡ below → dy ≡ 0 → take (b + w - b) (drop b s) ≡ take (a + w - a) (drop a s)
-  same_rows {a} {b} p q e =
-      let same : y + dy ≡ y = omega arith in
-      let t : b ≡ a = q ∙ ap (line_start first step w) same ∙ sym p in
-      ap (λ (j : ℕ). take (j + w - j) (drop j s)) t
 
   pub line_cells : {a b : ℕ} → a ≡ here → b ≡ below → (k : ℕ) → k < n
       → four_of (take (a + w - a) (drop a s)) (take (b + w - b) (drop b s)) x dx k ≡ line_cell s w first step count (pos x) (pos y) dx dy k
@@ -240,12 +232,6 @@ copied_cells {s} {w} {first} {step} {count} f y {a} p x k =
 pub plain_block : (read : ℤ → ℤ → ℕ) (x y : ℤ) (bw bh : ℕ)
     → block_of bw bh read x y ≡ block_of bw bh (λ (a b : ℤ). spread read a b 0 0) x y
 plain_block read x y bw bh = block_ext bw bh _ _ x y (λ a b. sym (spread_none read a b))
-
--- ---- the test that nothing is outside
-pub inside_yes : (z : ℤ) (n limit : ℕ) → inside_of z n limit ≡ true → (zn z ≡ 0) × (zp z + n ≤ limit)
-unfolding inside_of
-inside_yes (pos a) n limit e = (refl, leb-true (a + n) limit e)
-inside_yes (negsuc a) n limit e = let z : ◌≡◌ {A = ℕ} 0 1 = cc in absurd (omega arith)
 
 -- ---- the front of a local array: room for the samples that a block reads
 pub front : (l : List ℕ) (n : ℕ) → n ≤ length l → length (take (n - 0) l) ≡ n

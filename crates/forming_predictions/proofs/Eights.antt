@@ -1,7 +1,6 @@
 -- Laws of rows that are written eight by eight.
 -- Assumes nothing.
 use mathlib.Core.Path.{◌≡◌, sym, ap, ◌∙◌}
-use mathlib.Core.Logic.{◌⊎◌, inl, inr}
 use mathlib.Core.List.{List}
 use Prim.Native.Nat.{ℕ, ◌+◌, ◌-◌, ◌≤◌, ◌<◌}
 use native.Mathlib.Nat.{zero-add}
@@ -10,7 +9,7 @@ use lib.ListN.{length}
 use borrow.Rule.Slice.PartMut.{put_mid}
 use Rattle.laws.specs.Tabulate.{tabulate}
 use Rattle.laws.proofs.Filled.{Filled, filled_none, filled_length, filled_part, filled_again, filled_all}
-use Rattle.forming_predictions.specs.inner.Views.{four_of, Eights}
+use Rattle.forming_predictions.specs.inner.Views.{four_of}
 
 -- the first eight of a buffer, and the next eight
 pub eight : {f g : ℕ → ℕ} {d ys : List ℕ} → 8 ≤ length d → ys ≡ tabulate 8 g → ((i : ℕ) → i < 8 → g i ≡ f i) → Filled f d 8 (put_mid 0 8 d ys)
@@ -32,8 +31,3 @@ four_next row below x dx m i =
     let p : x + m + i ≡ x + (m + i) = omega arith in
     let q : x + m + dx + i ≡ x + dx + (m + i) = omega arith in
     rw (p, q)
-
--- what the test of a width says
-pub eights_of : (n : ℕ) → (n ≡ 8) ⊎ (n ≡ 16) → Eights n
-eights_of n (inl e) = record { some = omega arith; wide = omega arith; even = omega arith }
-eights_of n (inr e) = record { some = omega arith; wide = omega arith; even = omega arith }

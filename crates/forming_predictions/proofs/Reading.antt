@@ -1,11 +1,10 @@
 -- A signed argument stands in a goal as `to_z w32 (of_z w32 z)`. These laws take that off what calls ensure of lines and places.
 -- Assumes nothing.
-use Rattle.std.proofs.Common.{arith, ap, ◌≡◌, sym, ◌∙◌, Bool, true, ℕ, ◌+◌, ◌≤◌, ◌<◌, ℤ, pos, ◌+ℤ◌}
+use Rattle.std.proofs.Common.{arith, ap, ◌≡◌, ◌∙◌, ℕ, ◌<◌, ℤ, pos, ◌+ℤ◌}
 use lib.Signed.{mag}
 use mir.Syntax.{w32}
 use mir.Val.{SFits, of_z, to_z}
 use mir.Facts.{to_z-of_z}
-use Rattle.laws.proofs.Signed.{zp, zn}
 use Rattle.laws.proofs.Bits.{back}
 use Rattle.std.specs.Prelude.{None, Result, Ok}
 use Rattle.combine_predictions.specs.Refusals.{answered}
@@ -15,9 +14,8 @@ use Rattle.forming_predictions.specs.declared.ReferencePlane.{ReferencePlane}
 use Rattle.forming_predictions.specs.Splitting.{floor_half, half_flag}
 use Rattle.forming_predictions.specs.Lines.{clamp_to}
 use Rattle.forming_predictions.specs.Planes.{count_of, sample_refused, block_refused}
-use Rattle.forming_predictions.specs.inner.Views.{inside_of, bit_of}
+use Rattle.forming_predictions.specs.inner.Views.{bit_of}
 use Rattle.forming_predictions.proofs.Lines.{clamp_lt}
-use Rattle.forming_predictions.proofs.Blocks.{inside_yes}
 use Rattle.forming_predictions.proofs.Refusals.{BlockRight, block_right}
 
 -- a clamped coordinate
@@ -31,10 +29,6 @@ line_lt {count} {r} {y} p f e = omega (arith, at_line count f e, clamp_lt count 
 -- a coordinate that was moved on
 pub at_shifted : (n : ℕ) {s z : ℤ} → SFits w32 z → mag s < 2147483648 → s ≡ to_z w32 (of_z w32 z) +ℤ pos n → to_z w32 (of_z w32 s) ≡ z +ℤ pos n
 at_shifted n {s} f m e = back w32 s m ∙ (rw (to_z-of_z f) at e)
-
--- what a test that a block lies inside says of a position
-pub inside_at : (n limit : ℕ) {b : Bool} {z : ℤ} → SFits w32 z → b ≡ inside_of (to_z w32 (of_z w32 z)) n limit → b ≡ true → (zn z ≡ 0) × (zp z + n ≤ limit)
-inside_at n limit {z = z} f e t = inside_yes z n limit (sym (rw (to_z-of_z f) at e) ∙ t)
 
 -- a position that a vector moved, and the step that its half asks for
 pub at_moved : {m x v : ℤ} → SFits w32 x → SFits w32 v → mag m < 2147483648 → m ≡ to_z w32 (of_z w32 x) +ℤ floor_half (to_z w32 (of_z w32 v))

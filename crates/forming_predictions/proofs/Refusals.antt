@@ -3,14 +3,11 @@
 use mathlib.Core.Path.{◌≡◌, refl, sym, ◌∙◌}
 use mathlib.Core.Bool.{Bool, true, false, not, ◌&&◌}
 use Prim.Native.Nat.{ℕ, ◌*◌, ◌≤◌}
-use native.Mathlib.Nat.{mul-le-mul}
 use native.Mathlib.Omega.{arith}
 use lib.Dec.{leb, eqb}
 use lib.IntN.{ℤ, pos, negsuc}
 use lib.Signed.{le_z}
 use borrow.Author.Tests.{leb-true, eqb-true, le-leb, eq-eqb, ne_eqb}
-use mir.Syntax.{w64}
-use mir.Val.{Fits}
 use Rattle.laws.proofs.Signed.{le_yes}
 use Rattle.laws.proofs.Bounded.{Within}
 use Rattle.laws.proofs.Tests.{both, range}
@@ -84,10 +81,6 @@ sample_right w h n x y e =
     let p = positions_within 32782 x y (omega arith) (none_second (plane_refusal w h n) (position_refusal last_sample x y) e) in
     record { plane = plane_right w h n (none_first (plane_refusal w h n) (position_refusal last_sample x y) e); at_x = p.0; at_y = p.1 }
 
--- a product of a plane's sides
-pub product_fits : (w h : ℕ) → w ≤ 16384 → h ≤ 16384 → Fits w64 (w * h)
-product_fits w h p q = record { fits = omega (arith, mul-le-mul p q) }
-
 pub side_range : (n : ℕ) → block_side_fits n ≡ true → (1 ≤ n) × (n ≤ 16)
 unfolding block_side_fits
 side_range n e = range 1 16 n e
@@ -125,15 +118,6 @@ block_right w h n x y bw bh o e =
     }
 
 -- ---- several tests for one reason
-one_cause : {R : Type 0} (a b : Bool) (r : R) → cause (not (a && b)) r ≡ or_else (cause (not a) r) (cause (not b) r)
-one_cause true b r = refl
-one_cause false b r = refl
-
-pub sample_cause : (w h n : ℕ) (x y : ℤ)
-    → cause (not (plane_fits w h n && (position_fits last_sample x && position_fits last_sample y))) OutsideDomain ≡ sample_refusal w h n x y
-unfolding sample_refusal
-sample_cause w h n x y = one_cause (plane_fits w h n) (position_fits last_sample x && position_fits last_sample y) OutsideDomain
-
 -- a block's 14, and what follows it
 domain_then : {R : Type 0} (a b c : Bool) (r : R) (n : Option R)
     → or_else (cause (not (a && (b && c))) r) n ≡ or_else (cause (not a) r) (or_else (cause (not b) r) (or_else (cause (not c) r) n))
@@ -149,22 +133,6 @@ pub block_cause : (w h n : ℕ) (x y : ℤ) (bw bh o : ℕ)
 unfolding block_refusal
 block_cause w h n x y bw bh o =
     domain_then (plane_fits w h n) (block_side_fits bw && block_side_fits bh) (position_fits last_block x && position_fits last_block y) OutsideDomain (cause (not (eqb o (bw * bh))) WrongLength)
-
--- the sides of a block that fits
-pub sides_fit : (p r : Bool) (bw bh : ℕ) → cause (not (p && ((block_side_fits bw && block_side_fits bh) && r))) OutsideDomain ≡ None → (bw ≤ 16) × (bh ≤ 16)
-sides_fit p r bw bh e =
-    let a = both p ((block_side_fits bw && block_side_fits bh) && r) (no_cause (p && ((block_side_fits bw && block_side_fits bh) && r)) OutsideDomain e) in
-    let b = both (block_side_fits bw && block_side_fits bh) r a.1 in
-    let c = both (block_side_fits bw) (block_side_fits bh) b.0 in
-    ((side_range bw c.0).1, (side_range bh c.1).1)
-
--- a reason that is given ends the chain
-pub first_cause : {R : Type 0} (m n : Option R) (r : R) → m ≡ Some r → Some r ≡ or_else m n
-first_cause m n r e = rw e
-
--- and where there is none, the rest of it decides
-pub next_cause : {R : Type 0} (m n k : Option R) → m ≡ None → n ≡ k → k ≡ or_else m n
-next_cause m n k e f = rw (e, f)
 
 -- ---- a block: when each number is given
 module _ (w h n : ℕ) (x y : ℤ) (bw bh o : ℕ) where

@@ -9,7 +9,7 @@ use lib.IntN.{ℤ, pos}
 use lib.ListN.{length, get_or}
 use Rattle.laws.proofs.Parts.{part_length, part_at}
 use Rattle.forming_predictions.specs.Lines.{clamp_to}
-use Rattle.forming_predictions.specs.inner.Views.{line_start, view_read, four_of, picked_of, RowFits, ColumnsFit}
+use Rattle.forming_predictions.specs.inner.Views.{line_start, view_read, four_of, picked_of, ColumnsFit}
 use Rattle.forming_predictions.specs.inner.Blocks.{row_at, read, cell_at, picked_at, LiesIn}
 use Rattle.forming_predictions.specs.declared.view.View.{View}
 use Rattle.forming_predictions.specs.declared.view.Neighbour.{Neighbour}
@@ -34,12 +34,6 @@ clamped_read v x y =
 
 -- ---- two rows whose reads all lie in the view
 module _ (v : View) (to : Neighbour) {x y n : ℕ} (i : LiesIn v to x y n 1) where
-  pub rows_fit : RowFits (row_at v y) (row_at v (y + to.below)) x to.right n
-  rows_fit =
-      let here = row_length v y (omega (arith, i.below)) in
-      let below = row_length v (y + to.below) (omega (arith, i.below)) in
-      record { right = omega (arith, i.right); same = omega arith }
-
   pub same_row : to.below ≡ 0 → row_at v (y + to.below) ≡ row_at v y
   same_row e = let same : y + to.below ≡ y = omega arith in ap (row_at v) same
 

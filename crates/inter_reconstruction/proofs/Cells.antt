@@ -2,18 +2,18 @@
 -- Assumes nothing.
 use mathlib.Core.Path.{◌≡◌, refl, ◌∙◌}
 use mathlib.Core.List.{List, ◌++◌, append_assoc}
-use Prim.Native.Nat.{ℕ, zero, suc, ◌+◌, ◌*◌, ◌%◌, ◌≤◌}
-use native.Mathlib.Nat.{mul-le-mul, zero-mul, suc-mul}
+use Prim.Native.Nat.{ℕ, zero, suc, ◌+◌, ◌*◌, ◌%◌}
+use native.Mathlib.Nat.{zero-mul, suc-mul}
 use native.Mathlib.Omega.{arith}
 use Rattle.forming_predictions.specs.Means.{rounded}
 use Rattle.pmv.specs.declared.kinds.ChromaFormat.{ChromaFormat}
 use Rattle.pmv.specs.declared.kinds.ChromaFormat.TheVariants.{Yuv420, Yuv422, Yuv444}
 use Rattle.inter_reconstruction.specs.declared.motion.Uses.{Uses}
-use Rattle.inter_reconstruction.specs.Components.{ColourComponent, luma, cb, cr, block_width, block_height, block_bytes, macroblock_bytes}
+use Rattle.inter_reconstruction.specs.Components.{ColourComponent, luma, cb, cr, block_width, block_height, block_bytes}
 use Rattle.inter_reconstruction.specs.Motion.{chroma_uses}
 use Rattle.inter_reconstruction.specs.Frames.{PlaneReading}
 use Rattle.inter_reconstruction.specs.Macroblock.{used_sample, rectangle, part, macroblock, predicted}
-use Rattle.inter_reconstruction.specs.inner.Blocks.{AreaFits, FieldRows, ChromaSides}
+use Rattle.inter_reconstruction.specs.inner.Blocks.{FieldRows, ChromaSides}
 use Rattle.inter_reconstruction.specs.inner.Areas.{PartAt}
 use Rattle.inter_reconstruction.specs.declared.area.Area.{Area}
 
@@ -29,18 +29,6 @@ even_multiple zero h e = rw (zero-mul h)
 even_multiple (suc r) h e = let p = even_multiple r h e in omega (arith, suc-mul r h)
 
 -- ---- the luminance
-pub luma_fits : {col row : ℕ} → col ≤ 1023 → row ≤ 1023 → AreaFits (col * 16) (row * 16) 16 16
-luma_fits p q =
-    record {
-      left = omega (arith, p);
-      top = omega (arith, q);
-      some = omega arith;
-      wide = omega arith;
-      eights = refl;
-      tall = omega arith;
-      high = omega arith;
-    }
-
 pub luma_rows : (row : ℕ) → FieldRows (row * 16) 16
 luma_rows row = record { first = omega arith; even = refl }
 
@@ -49,26 +37,11 @@ module _ (f : ChromaFormat) {w h : ℕ} (ew : w ≡ block_width f cb) (eh : h �
   sides : ChromaSides w h
   sides = rw (ew, eh) (chroma_sides f)
 
-  pub chroma_bytes : w * h ≡ block_bytes f cb
-  chroma_bytes = rw (ew, eh)
-
   pub chroma_rows : (row : ℕ) → FieldRows (row * h) h
   chroma_rows row = record { first = even_multiple row h sides.even; even = sides.even }
 
   pub chroma_total : {n : ℕ} → n ≡ macroblock_bytes f → n ≡ 256 + (w * h + w * h)
   chroma_total e = rw (ew, eh) e
-
-  pub chroma_fits : {col row : ℕ} → col ≤ 1023 → row ≤ 1023 → AreaFits (col * w) (row * h) w h
-  chroma_fits p q =
-      record {
-        left = mul-le-mul p sides.wide;
-        top = mul-le-mul q sides.high;
-        some = omega (arith, sides.wide_lo);
-        wide = sides.wide;
-        eights = sides.eights;
-        tall = omega (arith, sides.high_lo);
-        high = sides.high;
-      }
 
 -- ---- a part by its area
 module _ {f : ChromaFormat} {c : ColourComponent} {col row : ℕ} {at : Area} (k : PartAt f c col row at) where

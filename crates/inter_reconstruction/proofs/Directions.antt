@@ -160,10 +160,3 @@ module _ (dest : FrameGeometry) (out : ℕ) (f b : Option FrameBuffer) (u : Uses
   given_before r o old w a v e =
       as_before dest out (given_sides f) (given_sides b) (given_lengths f) (given_lengths b) u col row r o old w
       (rw by_presence a) (rw by_presence v) e
-
-  pub given_17 : (r : Result Accepted PredictionRefusal)
-      → r ≡ answered (refusal_from dest out f b (remaining u (is_some f) (is_some b)) col row) (accepted (remaining u (is_some f) (is_some b)))
-      → result_err r ≡ Some BackwardMissing
-      → BackwardAlone u × (is_some b ≡ false)
-  given_17 r a e =
-      rw (there b) at (alone_17 dest out (given_sides f) (given_sides b) (given_lengths f) (given_lengths b) u col row r (rw by_presence a) e)
