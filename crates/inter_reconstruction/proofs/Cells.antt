@@ -9,7 +9,7 @@ use Rattle.forming_predictions.specs.Means.{rounded}
 use Rattle.pmv.specs.declared.kinds.ChromaFormat.{ChromaFormat}
 use Rattle.pmv.specs.declared.kinds.ChromaFormat.TheVariants.{Yuv420, Yuv422, Yuv444}
 use Rattle.inter_reconstruction.specs.declared.motion.Uses.{Uses}
-use Rattle.inter_reconstruction.specs.Components.{ColourComponent, luma, cb, cr, block_width, block_height, block_bytes}
+use Rattle.inter_reconstruction.specs.Components.{ColourComponent, luma, cb, cr, block_width, block_height, block_bytes, macroblock_bytes}
 use Rattle.inter_reconstruction.specs.Motion.{chroma_uses}
 use Rattle.inter_reconstruction.specs.Frames.{PlaneReading}
 use Rattle.inter_reconstruction.specs.Macroblock.{used_sample, rectangle, part, macroblock, predicted}

@@ -1,5 +1,5 @@
 -- What the functions on all three planes ask, and what they give. For private contracts alone.
-use Rattle.std.specs.Prelude.{◌≡◌, not, List, ℕ, ◌≤◌, eqb, Option}
+use Rattle.std.specs.Prelude.{◌≡◌, not, List, ℕ, eqb, Option}
 use Rattle.combine_predictions.specs.Refusals.{cause, or_else}
 use Rattle.combine_predictions.specs.declared.PredictionDirection.{PredictionDirection}
 use Rattle.forming_predictions.specs.Means.{rounded}
