@@ -3,7 +3,7 @@
 use mathlib.Core.Path.{◌≡◌, refl, sym, ap, ◌∙◌}
 use Rattle.std.specs.Prelude.{Option, Some, None, Result, Ok, Err}
 use Rattle.std.specs.Result.{result_ok, result_err}
-use Rattle.combine_predictions.specs.Refusals.{or_else, answered, value_unless}
+use Rattle.combine_predictions.specs.Refusals.{answered, value_unless}
 
 answered_err : {R A : Type 0} (n : Option R) (v : A) → result_err (answered n v) ≡ n
 answered_err None v = refl
@@ -28,17 +28,6 @@ is_refused (Some r) v e = ap result_err (sym e)
 pub is_accepted : {R A : Type 0} (n : Option R) (v : A) {w : A} → Ok w ≡ answered n v → n ≡ None
 is_accepted None v e = refl
 is_accepted (Some r) v e = absurd cc
-
--- the answer of the first tests, where they refuse, is that of the chain
-pub refused_first : {R A B : Type 0} (n m : Option R) (v : A) (w : B) {r : R} → Err r ≡ answered n v → Err r ≡ answered (or_else n m) w
-refused_first None m v w e = absurd cc
-refused_first (Some r) m v w e = cc
-
--- and where they don't, the rest of it decides
-pub rest_decides : {R A B : Type 0} (n m : Option R) (v : A) (w : B) {u : A} {a : Result B R}
-    → Ok u ≡ answered n v → a ≡ answered m w → a ≡ answered (or_else n m) w
-rest_decides None m v w e f = f
-rest_decides (Some r) m v w e f = absurd cc
 
 -- a value that is given, where nothing is refused
 pub given : {R A : Type 0} {n : Option R} {v w : A} → n ≡ None → w ≡ v → Ok w ≡ answered n v

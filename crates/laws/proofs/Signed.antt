@@ -181,13 +181,3 @@ non_neg_z (negsuc n) h = absurd (omega arith)
 pub sfits_hi : (w : Width) (z : ℤ) → SFits w z → zp z < 2 ^ hbits w + zn z
 sfits_hi w (pos n) h = omega (arith, h.sfits)
 sfits_hi w (negsuc n) h = omega (arith, h.sfits)
-
--- and not below the lower end
-pub sfits_lo : (w : Width) (z : ℤ) → SFits w z → zn z ≤ 2 ^ hbits w + zp z
-sfits_lo w (pos n) h = omega (arith, h.sfits)
-sfits_lo w (negsuc n) h = omega (arith, h.sfits)
-
--- a number between the ends fits
-pub sfits_z : (w : Width) (z : ℤ) → zp z < 2 ^ hbits w + zn z → zn z ≤ 2 ^ hbits w + zp z → SFits w z
-sfits_z w (pos n) h k = record { sfits = omega arith }
-sfits_z w (negsuc n) h k = record { sfits = omega arith }

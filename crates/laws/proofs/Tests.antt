@@ -2,20 +2,11 @@
 -- Assumes nothing.
 use mathlib.Core.Path.{◌≡◌, refl}
 use mathlib.Core.Logic.{◌⊎◌, inl, inr}
-use mathlib.Core.Bool.{Bool, true, false, not, ◌&&◌, ◌||◌}
+use mathlib.Core.Bool.{Bool, true, false, ◌&&◌, ◌||◌}
 use Prim.Native.Nat.{ℕ, ◌≤◌}
 use native.Mathlib.Omega.{arith}
 use lib.Dec.{leb}
 use borrow.Author.Tests.{leb-true}
-
--- `if !x`, taken and left
-pub not_taken : (x : Bool) → not x ≡ true → x ≡ false
-not_taken true e = let z : ◌≡◌ {A = ℕ} 0 1 = cc in absurd (omega arith)
-not_taken false e = refl
-
-pub not_left : (x : Bool) → not x ≡ false → x ≡ true
-not_left true e = refl
-not_left false e = let z : ◌≡◌ {A = ℕ} 0 1 = cc in absurd (omega arith)
 
 -- both tests of `x && y`, and one of `x || y`
 pub both : (x y : Bool) → (x && y) ≡ true → (x ≡ true) × (y ≡ true)
