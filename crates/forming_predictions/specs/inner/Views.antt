@@ -4,7 +4,7 @@ use Rattle.std.specs.Prelude.{◌≡◌, Bool, true, false, List, ℕ, ◌+◌, 
 use Rattle.std.specs.Int.{w32}
 use Rattle.std.proofs.Common.{SFits}
 use Rattle.combine_predictions.specs.Averaging.{mean2}
-use Rattle.forming_predictions.specs.Lines.{clamp_to}
+use Rattle.forming_predictions.specs.Lines.{Lines, clamp_to, row_of}
 use Rattle.forming_predictions.specs.Means.{mean4}
 
 -- the place of line j's first sample, in rows of w samples
@@ -71,6 +71,15 @@ pub record ViewFits (samples : List ℕ) (w first step count : ℕ) : Type 0 whe
   pub lines : 0 < count
   pub high : count ≤ 16384
   pub room : (j : ℕ) → j < count → line_start first step w j + w ≤ length samples
+
+-- these rows of a plane of h rows are the ones that `l` reads, and none is outside it
+pub record ReadsAs (l : Lines) (h first step count : ℕ) : Type 0 where
+  pub low : first ≤ 1
+  pub apart : step ≤ 2
+  pub few : count ≤ h
+  pub some : 0 < h → 0 < count
+  pub inside : (j : ℕ) → j < count → first + step * j < h
+  pub same : (y : ℤ) → first + step * clamp_to count y ≡ row_of l h y
 
 -- 8 or 16
 pub record Eights (n : ℕ) : Type 0 where
