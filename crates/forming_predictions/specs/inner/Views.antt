@@ -108,11 +108,7 @@ pub record Inside (w count x y dx dy bw bh : ℕ) : Type 0 where
 pub record ColumnsFit (columns : List ℕ) (w : ℕ) : Type 0 where
   pub inside : (k : ℕ) → k < length columns → get_or columns k 0 < w
 
--- a coordinate from which n steps can be made
-pub record Steps (n : ℕ) (z : ℤ) : Type 0 where
+-- a coordinate from which as many steps can be made as a block asks for
+pub record Reach (z : ℤ) : Type 0 where
   pub here : SFits w32 z
-  pub last : SFits w32 (z +ℤ pos n)
-
--- as many as a block asks for
-abbrev pub Reach : ℤ → Type 0
-Reach z = Steps 17 z
+  pub last : SFits w32 (z +ℤ pos 17)
