@@ -1,6 +1,7 @@
 -- Facts about the definitions of specs/, for their reader, for the proofs of the calls and for the crates above.
 pub mod Splitting
 pub mod Lines
+pub mod Parities
 pub mod Views
 pub mod ViewRows
 pub mod RowMeans

@@ -1,6 +1,7 @@
 -- A signed argument stands in a goal as `to_z w32 (of_z w32 z)`. These laws take that off what calls ensure of lines and places.
 -- Assumes nothing.
-use Rattle.std.proofs.Common.{arith, ap, ◌≡◌, ◌∙◌, ℕ, ◌<◌, ℤ, pos, ◌+ℤ◌}
+use Rattle.std.proofs.Common.{arith, ap, ◌≡◌, sym, ◌∙◌, Bool, true, ℕ, ◌+◌, ◌≤◌, ◌<◌, ℤ, pos, ◌+ℤ◌}
+use lib.IntN.{+ℤ_assoc}
 use lib.Signed.{mag}
 use mir.Syntax.{w32}
 use mir.Val.{SFits, of_z, to_z}
@@ -26,14 +27,16 @@ at_line count f e = rw (to_z-of_z f) at e
 pub line_lt : {count r : ℕ} {y : ℤ} → 0 < count → SFits w32 y → r ≡ clamp_to count (to_z w32 (of_z w32 y)) → r < count
 line_lt {count} {r} {y} p f e = omega (arith, at_line count f e, clamp_lt count y p)
 
--- a coordinate that was moved on
-pub at_shifted : (n : ℕ) {s z : ℤ} → SFits w32 z → mag s < 2147483648 → s ≡ to_z w32 (of_z w32 z) +ℤ pos n → to_z w32 (of_z w32 s) ≡ z +ℤ pos n
-at_shifted n {s} f m e = back w32 s m ∙ (rw (to_z-of_z f) at e)
+-- a coordinate that was moved on, and once more
+pub at_further : {s z : ℤ} → mag s < 2147483648 → s ≡ z → to_z w32 (of_z w32 s) ≡ z
+at_further {s} m e = back w32 s m ∙ e
+
+pub at_twice : (k n : ℕ) {s : ℤ} (z : ℤ) → mag s < 2147483648 → s ≡ z +ℤ pos (k + n) → to_z w32 (of_z w32 s) ≡ z +ℤ pos k +ℤ pos n
+at_twice k n z m e = at_further m e ∙ sym (+ℤ_assoc z (pos k) (pos n))
 
 -- a position that a vector moved, and the step that its half asks for
-pub at_moved : {m x v : ℤ} → SFits w32 x → SFits w32 v → mag m < 2147483648 → m ≡ to_z w32 (of_z w32 x) +ℤ floor_half (to_z w32 (of_z w32 v))
-    → to_z w32 (of_z w32 m) ≡ x +ℤ floor_half v
-at_moved {m} f g h e = back w32 m h ∙ (rw (to_z-of_z f, to_z-of_z g) at e)
+pub at_moved : {m x v : ℤ} → SFits w32 x → SFits w32 v → m ≡ to_z w32 (of_z w32 x) +ℤ floor_half (to_z w32 (of_z w32 v)) → m ≡ x +ℤ floor_half v
+at_moved f g e = rw (to_z-of_z f, to_z-of_z g) at e
 
 pub at_half : {b : ℕ} {v : ℤ} → SFits w32 v → b ≡ bit_of (half_flag (to_z w32 (of_z w32 v))) → b ≡ bit_of (half_flag v)
 at_half f e = rw (to_z-of_z f) at e

@@ -2,14 +2,14 @@
 -- Assumes nothing.
 use mathlib.Core.Path.{◌≡◌, refl, sym, ◌∙◌}
 use mathlib.Core.List.{List}
-use Prim.Native.Nat.{ℕ, zero, suc, ◌+◌, ◌*◌, ◌≤◌, ◌<◌}
+use Prim.Native.Nat.{ℕ, zero, suc, ◌+◌, ◌*◌, ◌<◌}
 use native.Mathlib.Nat.{zero-mul, mul-zero, mul_comm, mul-le-mul_right, suc-mul}
 use native.Mathlib.Omega.{arith}
 use lib.IntN.{ℤ, pos}
 use lib.ListN.{length}
 use borrow.Author.Tests.{ne_eqb}
 use Rattle.forming_predictions.specs.Lines.{Lines, frame, field, parity_row, field_lines, clamp_to, row_of, sample_at}
-use Rattle.forming_predictions.specs.inner.Views.{line_start, view_read, ViewFits}
+use Rattle.forming_predictions.specs.inner.Views.{line_start, view_read, ViewFits, ReadsAs}
 use Rattle.forming_predictions.specs.declared.FieldParity.{FieldParity}
 use Rattle.forming_predictions.specs.declared.FieldParity.TheVariants.{Top, Bottom}
 use Rattle.forming_predictions.proofs.Refusals.{PlaneRight}
@@ -26,15 +26,6 @@ pub place_lt : {s : List ℕ} {w first step count : ℕ} (x y : ℤ) → ViewFit
     → line_start first step w (clamp_to count y) + clamp_to w x < length s
 place_lt {s} {w} {first} {step} {count} x y f =
     omega (arith, f.room (clamp_to count y) (clamp_lt count y f.lines), clamp_lt w x f.some)
-
--- these rows of a plane of h rows are the ones that `l` reads, and none is outside it
-pub record ReadsAs (l : Lines) (h first step count : ℕ) : Type 0 where
-  pub low : first ≤ 1
-  pub apart : step ≤ 2
-  pub few : count ≤ h
-  pub some : 0 < h → 0 < count
-  pub inside : (j : ℕ) → j < count → first + step * j < h
-  pub same : (y : ℤ) → first + step * clamp_to count y ≡ row_of l h y
 
 -- the rows of a plane that has samples are a view
 module _ {l : Lines} {h first step count : ℕ} (f : ReadsAs l h first step count) {w : ℕ} (s : List ℕ) (p : PlaneRight w h (length s)) (e : 0 < length s) where
@@ -97,17 +88,21 @@ top_reads h n e =
         omega (arith, top_lines h, empty_field Top h y (sym e), clamp_is h (pos 0), clamp_is 0 y)
     row h (suc n) y e = rw e (omega (arith, field_row Top h y (omega arith)))
 
--- a bottom field without lines is one of a plane of at most one row: that row is read
-pub no_bottom_reads : (h : ℕ) → field_lines Bottom h ≡ 0 → ReadsAs (field Bottom) h 0 1 h
-no_bottom_reads h e =
+-- a field without lines is one of a plane of at most one row: that row is read, if there is one
+pub no_field_reads : (p : FieldParity) (h n : ℕ) → n ≡ field_lines p h → n ≡ 0 → ReadsAs (field p) h 0 1 h
+no_field_reads p h n e z =
     record {
       low = omega arith;
       apart = omega arith;
       few = omega arith;
-      some = λ p. p;
+      some = λ q. q;
       inside = λ j i. omega arith;
-      same = λ y. omega (arith, bottom_lines h, empty_field Bottom h y e, clamp_is h (pos 1), clamp_is h y);
+      same = same p e;
     }
+  where
+    same : (p : FieldParity) → n ≡ field_lines p h → (y : ℤ) → 0 + 1 * clamp_to h y ≡ row_of (field p) h y
+    same Top e y = omega (arith, top_lines h, empty_field Top h y (sym e ∙ z), clamp_is h (pos 0), clamp_is h y)
+    same Bottom e y = omega (arith, bottom_lines h, empty_field Bottom h y (sym e ∙ z), clamp_is h (pos 1), clamp_is h y)
 
 pub bottom_reads : (h n : ℕ) → n ≡ field_lines Bottom h → (n ≡ 0 → ⊥) → ReadsAs (field Bottom) h 1 2 n
 bottom_reads h n e p =
@@ -125,11 +120,3 @@ bottom_reads h n e p =
 pub field_reads : (p : FieldParity) (h n : ℕ) → n ≡ field_lines p h → (n ≡ 0 → ⊥) → ReadsAs (field p) h (parity_row p) 2 n
 field_reads Top h n e q = top_reads h n e
 field_reads Bottom h n e q = bottom_reads h n e q
-
--- a field without lines, of a plane that has samples, reads what the frame does
-pub no_field : (p : FieldParity) {w h : ℕ} (s : List ℕ) (x y : ℤ) → PlaneRight w h (length s) → 0 < length s → field_lines p h ≡ 0
-    → sample_at frame w h s x y ≡ sample_at (field p) w h s x y
-no_field Top {w} {h} s x y r l e =
-    let sides = sides_some w h (omega (arith, r.count)) in
-    absurd (omega (arith, top_lines h, e, sides.1))
-no_field Bottom {w} {h} s x y r l e = sym (rows_read (frame_reads h) s r l x y) ∙ rows_read (no_bottom_reads h e) s r l x y

@@ -47,11 +47,11 @@ plane_refusal w h n = cause (not (plane_fits w h n)) OutsideDomain
 abbrev pub position_refusal : ℤ → ℤ → ℤ → Option FormingRefusal
 position_refusal last x y = cause (not (position_fits last x && position_fits last y)) OutsideDomain
 
--- `predict_sample`, `predict_field_sample`
+-- `predict_sample`, of a frame or of a field
 unfoldable pub sample_refusal : ℕ → ℕ → ℕ → ℤ → ℤ → Option FormingRefusal
 sample_refusal w h n x y = or_else (plane_refusal w h n) (position_refusal last_sample x y)
 
--- `predict_block`, `predict_field_block`: a block of bw columns and bh rows into a buffer of o bytes
+-- `predict_block`, of a frame or of a field: a block of bw columns and bh rows into a buffer of o bytes
 unfoldable pub block_refusal : ℕ → ℕ → ℕ → ℤ → ℤ → ℕ → ℕ → ℕ → Option FormingRefusal
 block_refusal w h n x y bw bh o =
     or_else (plane_refusal w h n)

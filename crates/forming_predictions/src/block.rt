@@ -3,26 +3,33 @@
 ghost use Rattle.std.specs.Prelude.{◌≡◌, ◌*◌, ◌+ℤ◌, length};
 ghost use Rattle.laws.proofs.Bounded.{Within};
 ghost use Rattle.forming_predictions.specs.Splitting.{floor_half, half_flag};
-ghost use Rattle.forming_predictions.specs.inner.Views.{Reach, bit_of};
+ghost use Rattle.forming_predictions.specs.inner.Views.{bit_of};
 ghost use Rattle.forming_predictions.specs.inner.Blocks.{block_at};
 
 use crate::edges::form_fetched;
 use crate::inside::{form_any, form_inside, is_inside};
 use crate::narrow::form_clamped;
 use crate::split_component;
-use crate::view::{Neighbour, Sides, View};
+use crate::view::{Neighbour, Position, Sides, View};
 
 /// A block from (x, y) on.
 #[tactic(auto, unfolding(crate::specs::inner::Views::inside_of))]
-pub(crate) fn form(view: View<'_>, x: i32, y: i32, to: Neighbour, size: Sides, out: &mut [u8])
-    requires { Reach x × Reach y × (length out.old ≡ size.width * size.height) }
-    ensures { out.new ≡ block_at view.entry to x y size.width size.height }
+pub(crate) fn form(
+    view: View<'_>,
+    x: Position,
+    y: Position,
+    to: Neighbour,
+    size: Sides,
+    out: &mut [u8],
+)
+    requires { length out.old ≡ size.width * size.height }
+    ensures { out.new ≡ block_at view.entry to x.at y.at size.width size.height }
 {
-    let columns = is_inside(x, to.right + size.width, view.width);
-    let inside = columns & is_inside(y, to.below + size.height, view.count);
+    let columns = is_inside(x.at, to.right + size.width, view.width);
+    let inside = columns & is_inside(y.at, to.below + size.height, view.count);
     match (inside, size.width, to.right) {
-        (true, 8 | 16, _) => form_inside(view, x as usize, y as usize, to, size, out),
-        (true, _, _) => form_any(view, x as usize, y as usize, to, size, out),
+        (true, 8 | 16, _) => form_inside(view, x.at as usize, y.at as usize, to, size, out),
+        (true, _, _) => form_any(view, x.at as usize, y.at as usize, to, size, out),
         (false, 8, 0) => form_fetched::<8, 136>(view, x, y, to, size, out),
         (false, 8, _) => form_fetched::<9, 153>(view, x, y, to, size, out),
         (false, 16, 0) => form_fetched::<16, 272>(view, x, y, to, size, out),
@@ -32,12 +39,13 @@ pub(crate) fn form(view: View<'_>, x: i32, y: i32, to: Neighbour, size: Sides, o
 }
 
 /// A position, moved by the whole part of a vector.
-pub(crate) fn moved(position: i32, vector: i32) -> i32
+pub(crate) fn moved(position: i32, vector: i32) -> Position
     requires { Within 32782 position }
-    ensures { (result ≡ position +ℤ floor_half vector) × Reach result }
+    ensures { result.at ≡ position +ℤ floor_half vector }
 {
     let split = split_component(vector);
-    position + split.int_vec
+    let at = position + split.int_vec;
+    Position { at: at }
 }
 
 /// The neighbour that the halves of a vector ask for.

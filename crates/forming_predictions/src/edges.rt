@@ -2,19 +2,19 @@
 
 ghost use Rattle.std.specs.Prelude.{◌≡◌, ℕ, ◌+◌, ◌*◌, ◌/◌, ◌%◌, ◌≤◌, ℤ, pos, ◌+ℤ◌, length};
 ghost use Rattle.laws.specs.Tabulate.{tabulate};
-ghost use Rattle.forming_predictions.specs.inner.Views.{picked_of, column_at, ColumnsFit, Eights, Reach};
+ghost use Rattle.forming_predictions.specs.inner.Views.{picked_of, column_at, ColumnsFit, Eights};
 ghost use Rattle.forming_predictions.specs.inner.Blocks.{block_at, picked_at};
 
 use crate::inside::form_inside;
-use crate::view::{Neighbour, Sides, View, clamp_to, shifted};
+use crate::view::{Neighbour, Position, Sides, View, clamp_to};
 
 /// The columns that a block reads, clamped.
-fn clamp_columns(width: usize, x: i32, columns: &mut [usize])
-    requires { Reach x × (length columns.old ≤ 17) }
-    ensures { columns.new ≡ tabulate (length columns.old) (column_at width x) }
+fn clamp_columns(width: usize, x: Position, columns: &mut [usize])
+    requires { length columns.old ≤ 17 }
+    ensures { columns.new ≡ tabulate (length columns.old) (column_at width x.at) }
 {
     for k in 0..columns.len() {
-        columns[k] = clamp_to(width, shifted(x, k));
+        columns[k] = clamp_to(width, x.further(k));
     }
 }
 
@@ -33,17 +33,17 @@ fn pick_samples<const N: usize>(row: &[u8], columns: &[usize], out: &mut [u8])
 fn fetch_lines<const N: usize>(
     view: View<'_>,
     columns: &[usize],
-    y: i32,
+    y: Position,
     height: usize,
     out: &mut [u8],
 )
-    requires { ColumnsFit columns.now view.width × (length columns.now ≡ N) × Reach y × (height ≤ 17) × (length out.old ≡ N * height) }
-    ensures { out.new ≡ tabulate (N * height) (λ (k : ℕ). picked_at view.entry columns.now (y +ℤ pos (k / N)) (k % N)) }
+    requires { ColumnsFit columns.now view.width × (length columns.now ≡ N) × (height ≤ 17) × (length out.old ≡ N * height) }
+    ensures { out.new ≡ tabulate (N * height) (λ (k : ℕ). picked_at view.entry columns.now (y.at +ℤ pos (k / N)) (k % N)) }
 {
     for r in 0..height {
         let o = r * N;
         let e = o + N;
-        pick_samples::<N>(view.clamped_row(shifted(y, r)), columns, &mut out[o..e]);
+        pick_samples::<N>(view.clamped_row(y.further(r)), columns, &mut out[o..e]);
     }
 }
 
@@ -53,15 +53,15 @@ fn fetch_lines<const N: usize>(
 #[inline(never)]
 pub(crate) fn form_fetched<const N: usize, const ROOM: usize>(
     view: View<'_>,
-    x: i32,
-    y: i32,
+    x: Position,
+    y: Position,
     to: Neighbour,
     size: Sides,
     out: &mut [u8],
 )
     requires columns_fit { (N ≡ size.width + to.right) × (ROOM ≡ N * 17) × Eights size.width }
-    requires reads_fit { Reach x × Reach y × (length out.old ≡ size.width * size.height) }
-    ensures { out.new ≡ block_at view.entry to x y size.width size.height }
+    requires room { length out.old ≡ size.width * size.height }
+    ensures { out.new ≡ block_at view.entry to x.at y.at size.width size.height }
 {
     let mut columns = [0usize; N];
     clamp_columns(view.width, x, &mut columns);

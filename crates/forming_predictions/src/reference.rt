@@ -3,6 +3,7 @@
 ghost use Rattle.std.specs.Prelude.{◌≡◌, None, Some, ◌<◌, ℤ};
 ghost use Rattle.forming_predictions.specs.Lines.{Lines, frame, field};
 ghost use Rattle.forming_predictions.specs.Planes.{lines_by, read_at, count_of, plane_refused};
+ghost use Rattle.forming_predictions.specs.inner.Views.{ReadsAs};
 ghost use Rattle.forming_predictions.specs.inner.Blocks.{read};
 ghost use Rattle.forming_predictions.specs.declared.ReferencePlane.{ReferencePlane};
 
@@ -52,50 +53,57 @@ impl<'a> Reference<'a> for FieldReference<'a> {
     }
 }
 
-/// A plane's rows.
-fn frame_view<'a>(plane: ReferencePlane<'a>) -> View<'a>
-    requires { (plane_refused plane ≡ None) × (0 < count_of plane) }
-    ensures { (x : ℤ) (y : ℤ) → read result x y ≡ read_at frame plane.entry x y }
+/// The rows of a plane that are read as lines: row `first`, then every `step`-th, `count` of them.
+#[derive(Clone, Copy)]
+struct Rows {
+    first: usize,
+    step: usize,
+    count: usize,
+}
+
+/// All rows, or a field's. A field without lines reads the plane's only row.
+#[tactic(auto, using(crate::proofs::Views::frame_reads, crate::proofs::Views::field_reads, crate::proofs::Views::no_field_reads))]
+fn rows_of(plane: ReferencePlane<'_>, parity: Option<FieldParity>) -> Rows
+    ensures { ReadsAs (lines_by parity) plane.entry.sides.height result.first result.step result.count }
 {
-    View {
-        samples: plane.samples,
-        width: plane.sides.width,
+    let all = Rows {
         first: 0,
         step: 1,
         count: plane.sides.height,
-    }
-}
-
-/// A field's lines. A field without lines reads the plane's only row.
-#[tactic(auto, using(crate::proofs::Views::field_reads, crate::proofs::Views::rows_read, crate::proofs::Views::no_field, crate::proofs::Refusals::plane_right))]
-fn field_view<'a>(plane: ReferencePlane<'a>, parity: FieldParity) -> View<'a>
-    requires { (plane_refused plane ≡ None) × (0 < count_of plane) }
-    ensures { (x : ℤ) (y : ℤ) → read result x y ≡ read_at (field parity) plane.entry x y }
-{
-    let count = FieldReference {
-        plane: plane,
-        parity: parity,
-    }
-    .height();
-    if count == 0 {
-        return frame_view(plane);
-    }
-    View {
-        samples: plane.samples,
-        width: plane.sides.width,
-        first: parity.into(),
-        step: 2,
-        count: count,
+    };
+    match parity {
+        None => all,
+        Some(parity) => {
+            let field = FieldReference {
+                plane: plane,
+                parity: parity,
+            };
+            let count = field.height();
+            if count == 0 {
+                return all;
+            }
+            Rows {
+                first: parity.into(),
+                step: 2,
+                count: count,
+            }
+        }
     }
 }
 
 /// The lines of a plane that has samples.
+#[tactic(auto, using(crate::proofs::Views::rows_read, crate::proofs::Refusals::plane_right))]
 pub(crate) fn view_of<'a, R: Reference<'a>>(reference: R) -> View<'a>
     requires { (plane_refused (R.plane reference) ≡ None) × (0 < count_of (R.plane reference)) }
     ensures { (x : ℤ) (y : ℤ) → read result x y ≡ read_at (R.lines reference) (R.plane reference) x y }
 {
-    match reference.parity() {
-        None => frame_view(reference.plane()),
-        Some(parity) => field_view(reference.plane(), parity),
+    let plane = reference.plane();
+    let rows = rows_of(plane, reference.parity());
+    View {
+        samples: plane.samples,
+        width: plane.sides.width,
+        first: rows.first,
+        step: rows.step,
+        count: rows.count,
     }
 }

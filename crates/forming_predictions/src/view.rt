@@ -2,7 +2,7 @@
 
 ghost use Rattle.std.specs.Prelude.{◌≡◌, ◌≤◌, ◌<◌, ℤ, pos, ◌+ℤ◌};
 ghost use Rattle.forming_predictions.specs.Lines.{clamp_to};
-ghost use Rattle.forming_predictions.specs.inner.Views.{ViewFits, SidesFit, Steps};
+ghost use Rattle.forming_predictions.specs.inner.Views.{ViewFits, SidesFit, Reach};
 
 use crate::means::avg4;
 
@@ -35,6 +35,13 @@ pub(crate) struct Sides {
     ghost fits: { SidesFit width height },
 }
 
+/// A coordinate from which a block's steps can be made.
+#[derive(Clone, Copy)]
+pub(crate) struct Position {
+    pub(crate) at: i32,
+    ghost reach: { Reach at },
+}
+
 /// A coordinate, moved into 0..n - 1.
 #[tactic(auto, unfolding(crate::specs::Lines::clamp_to))]
 pub(crate) fn clamp_to(n: usize, v: i32) -> usize
@@ -53,12 +60,14 @@ pub(crate) fn clamp_to(n: usize, v: i32) -> usize
     n - 1
 }
 
-/// A coordinate, n further.
-pub(crate) fn shifted(position: i32, n: usize) -> i32
-    requires { Steps n position × (n ≤ 17) }
-    ensures { result ≡ position +ℤ pos n }
-{
-    position + n as i32
+impl Position {
+    /// The coordinate n further.
+    pub(crate) fn further(self, n: usize) -> i32
+        requires { n ≤ 17 }
+        ensures { result ≡ self.at +ℤ pos n }
+    {
+        self.at + n as i32
+    }
 }
 
 impl<'a> View<'a> {
@@ -101,16 +110,15 @@ impl<'a> View<'a> {
 
     /// One predicted sample.
     #[tactic(auto, unfolding(crate::specs::inner::Views::spread))]
-    pub(crate) fn form_sample(self, x: i32, y: i32, to: Neighbour) -> u8
-        requires { Steps 1 x × Steps 1 y }
-        ensures { result ≡ formed_at self.entry to x y }
+    pub(crate) fn form_sample(self, x: Position, y: Position, to: Neighbour) -> u8
+        ensures { result ≡ formed_at self.entry to x.at y.at }
     {
-        let right = shifted(x, to.right);
-        let below = shifted(y, to.below);
+        let right = x.further(to.right);
+        let below = y.further(to.below);
         avg4(
-            self.sample(x, y),
-            self.sample(right, y),
-            self.sample(x, below),
+            self.sample(x.at, y.at),
+            self.sample(right, y.at),
+            self.sample(x.at, below),
             self.sample(right, below),
         )
     }

@@ -6,11 +6,7 @@ use Prim.Native.Nat.{ℕ, ◌≤◌}
 use native.Mathlib.Omega.{arith}
 use borrow.Author.Tests.{ne_eqb}
 use Rattle.std.specs.Prelude.{Some, None}
-use Rattle.forming_predictions.specs.declared.FieldParity.{FieldParity}
-use Rattle.forming_predictions.specs.declared.FieldParity.TheVariants.{Top, Bottom}
 use Rattle.pmv.specs.Kinds.{component_number, direction_number, direction_from, index_number, index_from, format_number, format_from, structure_number, structure_from, type_number, type_from, chroma_number, chroma_from, flag_from}
-use Rattle.forming_predictions.specs.Parities.{parity_from}
-use Rattle.forming_predictions.specs.Lines.{parity_row}
 use Rattle.pmv.specs.declared.kinds.Component.{Component}
 use Rattle.pmv.specs.declared.kinds.Component.TheVariants.{Horizontal, Vertical}
 use Rattle.pmv.specs.declared.kinds.Direction.{Direction}
@@ -33,7 +29,7 @@ pub index-le : (r : VectorIndex) → index_number r ≤ 1
 index-le VectorIndex.First = omega arith
 index-le VectorIndex.Second = omega arith
 
--- ---- a kind's number means the kind, and a parity's row the parity; a larger number means none
+-- ---- a kind's number means the kind; a larger number means none
 pub direction_back : (k : Direction) → direction_from (direction_number k) ≡ Some k
 direction_back Direction.Forward = refl
 direction_back Direction.Backward = refl
@@ -79,13 +75,6 @@ chroma_back ChromaFormat.Yuv444 = refl
 
 pub chroma_none : (n : ℕ) → 3 ≤ n → chroma_from n ≡ None
 chroma_none n h = rw (ne_eqb n 0 (λ e. absurd (omega arith)), ne_eqb n 1 (λ e. absurd (omega arith)), ne_eqb n 2 (λ e. absurd (omega arith)))
-
-pub parity_back : (k : FieldParity) → parity_from (parity_row k) ≡ Some k
-parity_back Top = refl
-parity_back Bottom = refl
-
-pub parity_none : (n : ℕ) → 2 ≤ n → parity_from n ≡ None
-parity_none n h = rw (ne_eqb n 0 (λ e. absurd (omega arith)), ne_eqb n 1 (λ e. absurd (omega arith)))
 
 pub flag_back : (flag_from 0 ≡ Some false) × (flag_from 1 ≡ Some true)
 flag_back = (refl, refl)

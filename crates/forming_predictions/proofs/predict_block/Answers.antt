@@ -1,7 +1,6 @@
 -- A plane without samples gives zeros, and another one is read.
 -- Assumes nothing.
-use Rattle.std.proofs.Common.{◌∙◌, rules, arith, w32}
-use Rattle.laws.proofs.Bits.{back}
+use Rattle.std.proofs.Common.{◌∙◌, rules, arith}
 use Rattle.forming_predictions.specs.inner.Blocks.{read}
 use Rattle.forming_predictions.proofs.Reading.{same_count, block_accepted, at_moved, at_half}
 use Rattle.forming_predictions.proofs.Forming.{empty_block, view_block}
@@ -16,19 +15,15 @@ pub invariant_of-form : goal.invariant_of-form
 invariant_of-form g c = record { fits = (block_accepted c.plane-plane.ensures c.ranges.top_left_x c.ranges.top_left_y c.in_ok-check_block.ensures).sides }
 
 pub form-requires : goal.form-requires
-form-requires g c = (
-  rw (back w32 c.moved.result c.moved.type_inv) c.moved.ensures.1,
-  rw (back w32 c.moved-2.result c.moved-2.type_inv) c.moved-2.ensures.1,
-  (block_accepted c.plane-plane.ensures c.ranges.top_left_x c.ranges.top_left_y c.in_ok-check_block.ensures).room,
-)
+form-requires g c = (block_accepted c.plane-plane.ensures c.ranges.top_left_x c.ranges.top_left_y c.in_ok-check_block.ensures).room
 
 pub returns-clause-buffer : goal.returns-clause-buffer
 returns-clause-buffer g c =
     let a = c.args in
     let r = c.ranges in
     (rw (
-      at_moved r.top_left_x r.horizontal c.moved.type_inv c.moved.ensures.0,
-      at_moved r.top_left_y r.vertical c.moved-2.type_inv c.moved-2.ensures.0,
+      at_moved r.top_left_x r.horizontal c.moved.ensures,
+      at_moved r.top_left_y r.vertical c.moved-2.ensures,
       at_half r.horizontal c.neighbour.ensures.0,
       at_half r.vertical c.neighbour.ensures.1,
     )

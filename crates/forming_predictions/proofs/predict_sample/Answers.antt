@@ -13,8 +13,8 @@ returns-clause-answer g c =
     let r = c.ranges in
     given (sample_accepted c.plane-plane.ensures r.x r.y c.in_ok-check_sample.ensures)
     ((rw (
-      at_moved r.x r.horizontal c.moved.type_inv c.moved.ensures.0,
-      at_moved r.y r.vertical c.moved-2.type_inv c.moved-2.ensures.0,
+      at_moved r.x r.horizontal c.moved.ensures,
+      at_moved r.y r.vertical c.moved-2.ensures,
       at_half r.horizontal c.neighbour.ensures.0,
       at_half r.vertical c.neighbour.ensures.1,
     )

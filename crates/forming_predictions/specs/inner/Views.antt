@@ -4,7 +4,7 @@ use Rattle.std.specs.Prelude.{◌≡◌, Bool, true, false, List, ℕ, ◌+◌, 
 use Rattle.std.specs.Int.{w32}
 use Rattle.std.proofs.Common.{SFits}
 use Rattle.combine_predictions.specs.Averaging.{mean2}
-use Rattle.forming_predictions.specs.Lines.{clamp_to}
+use Rattle.forming_predictions.specs.Lines.{Lines, clamp_to, row_of}
 use Rattle.forming_predictions.specs.Means.{mean4}
 
 -- the place of line j's first sample, in rows of w samples
@@ -72,6 +72,15 @@ pub record ViewFits (samples : List ℕ) (w first step count : ℕ) : Type 0 whe
   pub high : count ≤ 16384
   pub room : (j : ℕ) → j < count → line_start first step w j + w ≤ length samples
 
+-- these rows of a plane of h rows are the ones that `l` reads, and none is outside it
+pub record ReadsAs (l : Lines) (h first step count : ℕ) : Type 0 where
+  pub low : first ≤ 1
+  pub apart : step ≤ 2
+  pub few : count ≤ h
+  pub some : 0 < h → 0 < count
+  pub inside : (j : ℕ) → j < count → first + step * j < h
+  pub same : (y : ℤ) → first + step * clamp_to count y ≡ row_of l h y
+
 -- 8 or 16
 pub record Eights (n : ℕ) : Type 0 where
   pub some : 8 ≤ n
@@ -99,11 +108,7 @@ pub record Inside (w count x y dx dy bw bh : ℕ) : Type 0 where
 pub record ColumnsFit (columns : List ℕ) (w : ℕ) : Type 0 where
   pub inside : (k : ℕ) → k < length columns → get_or columns k 0 < w
 
--- a coordinate from which n steps can be made
-pub record Steps (n : ℕ) (z : ℤ) : Type 0 where
+-- a coordinate from which as many steps can be made as a block asks for
+pub record Reach (z : ℤ) : Type 0 where
   pub here : SFits w32 z
-  pub last : SFits w32 (z +ℤ pos n)
-
--- as many as a block asks for
-abbrev pub Reach : ℤ → Type 0
-Reach z = Steps 17 z
+  pub last : SFits w32 (z +ℤ pos 17)

@@ -5,4 +5,4 @@ use Rattle.forming_predictions.specs.inner.Views.{column_at}
 use Rattle.forming_predictions.proofs.edges.clamp_columns.Given as goal
 
 abbrev pub invariant-loop-k : goal.invariant-loop-k
-invariant-loop-k l = Filled (column_at l.width l.x) l.initial.columns l.k l.columns
+invariant-loop-k l = Filled (column_at l.width l.x.at) l.initial.columns l.k l.columns

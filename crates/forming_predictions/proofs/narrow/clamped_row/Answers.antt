@@ -1,7 +1,5 @@
 -- The invariant before the first turn, and after a turn that stores a sample.
 -- Assumes nothing.
-use Rattle.std.proofs.Common.{◌∙◌, w32}
-use Rattle.laws.proofs.Bits.{back}
 use Rattle.laws.proofs.Filled.{filled_none, filled_turn}
 use Rattle.forming_predictions.proofs.narrow.clamped_row.Goals as goal
 
@@ -11,4 +9,4 @@ loop-k-init c = filled_none _ _
 pub loop-k-preserved : goal.loop-k-preserved
 loop-k-preserved c =
     filled_turn c.loop-k.invariant c.loop-k-test.true
-    (rw (back w32 c.shifted.result c.shifted.type_inv ∙ c.shifted.ensures) at c.clamped_sample.ensures)
+    c.clamped_sample.ensures
