@@ -8,7 +8,7 @@ ghost use Rattle.drawn.specs.declared.references.Extent.{Extent};
 ghost use Rattle.drawn.specs.Fields.{NumberAt, third_end, planes_end, ExtentAt, DrawnFrom, PlanesAt, IsEmpty, AreEmpty};
 
 use crate::draws::Draws;
-use forming_predictions::PlaneSides;
+use forming_predictions::{PlaneSides, ReferencePlane};
 use lists::{Cursor, Unread};
 use std::alloc::{AllocError, Global};
 
@@ -45,7 +45,7 @@ impl Extent {
         ensures extent { IfOk result (λ extent. ExtentAt case.old.text.now case.old.at extent) }
         ensures few { IfOk result (λ extent. extent.length ≤ most) }
         ensures malformed { IfErr result (λ e. e ≡ Malformed) }
-        ensures refused { OnErr result ((extent : Extent) → extent.sides.width < 2 ^ 64 → extent.sides.height < 2 ^ 64 → extent.length < 2 ^ 64 → extent.length ≤ most → ¬ (ExtentAt case.old.text.now case.old.at extent)) }
+        ensures refused { OnErr result ((extent : Extent) → extent.sides.width < 2 ^ 64 → extent.sides.height < 2 ^ 64 → extent.length ≤ most → ¬ (ExtentAt case.old.text.now case.old.at extent)) }
         ensures moved { IfOk result (λ _. MovesTo case.old case.new (third_end case.old.text.now case.old.at)) }
     {
         let sides = PlaneSides {
@@ -61,7 +61,18 @@ impl Extent {
 }
 
 impl Plane {
-    fn empty(alloc: Global) -> Plane
+    /// The plane as it is read.
+    pub fn lent(&self) -> ReferencePlane<'_>
+        ensures sides { result.sides ≡ self.now.sides }
+        ensures samples { result.samples.now ≡ self.now.samples.items }
+    {
+        ReferencePlane {
+            sides: self.sides,
+            samples: &self.samples,
+        }
+    }
+
+    pub fn empty(alloc: Global) -> Plane
         ensures { IsEmpty result }
     {
         Plane {
