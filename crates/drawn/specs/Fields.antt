@@ -1,7 +1,7 @@
 -- What a line says of a frame, and of the planes of a reference.
-use Rattle.std.specs.Prelude.{◌≡◌, List, [], ℕ, ◌+◌, ◌≤◌, ℤ, pos, Some}
-use Rattle.lists.specs.Text.{word_at, word_end}
-use Rattle.lists.specs.Numbers.{number_of}
+use Rattle.std.specs.Prelude.{◌≡◌, List, [], ℕ, ◌+◌, ◌≤◌, pos, Some, Ok}
+use Rattle.lists.specs.Text.{word_end}
+use Rattle.lists.specs.Numbers.{number_at}
 use Rattle.pmv.specs.Kinds.{chroma_from}
 use Rattle.inter_reconstruction.specs.declared.frames.FrameGeometry.{FrameGeometry}
 use Rattle.drawn.specs.Draws.{number_after, drawn}
@@ -19,26 +19,34 @@ pub record AreEmpty (p : Planes) : Type 0 where
   pub cb : IsEmpty p.cb
   pub cr : IsEmpty p.cr
 
--- the number at a place
-abbrev pub field : List ℕ → ℕ → ℤ
-field s at = number_of (word_at s at)
+-- this number stands at a place
+abbrev pub NumberAt : List ℕ → ℕ → ℕ → Type 0
+NumberAt s at n = number_at s at ≡ Ok (pos n)
 
 -- the place behind three words
 abbrev pub third_end : List ℕ → ℕ → ℕ
 third_end s at = word_end s (word_end s (word_end s at))
 
+-- the place behind the extents of three planes
+abbrev pub extents_end : List ℕ → ℕ → ℕ
+extents_end s at = third_end s (third_end s (third_end s at))
+
+-- and behind SEED
+abbrev pub planes_end : List ℕ → ℕ → ℕ
+planes_end s at = word_end s (extents_end s at)
+
 -- WIDTH HEIGHT LENGTH
 pub record ExtentAt (s : List ℕ) (at : ℕ) (e : Extent) : Type 0 where
-  pub width : pos e.sides.width ≡ field s at
-  pub height : pos e.sides.height ≡ field s (word_end s at)
-  pub length : pos e.length ≡ field s (word_end s (word_end s at))
+  pub width : NumberAt s at e.sides.width
+  pub height : NumberAt s (word_end s at) e.sides.height
+  pub length : NumberAt s (word_end s (word_end s at)) e.length
 
 -- WIDTH HEIGHT CHROMA
 pub record GeometryAt (s : List ℕ) (at : ℕ) (g : FrameGeometry) : Type 0 where
   pub chroma : ℕ
-  pub width : pos g.width ≡ field s at
-  pub height : pos g.height ≡ field s (word_end s at)
-  pub chroma_at : pos chroma ≡ field s (word_end s (word_end s at))
+  pub width : NumberAt s at g.width
+  pub height : NumberAt s (word_end s at) g.height
+  pub chroma_at : NumberAt s (word_end s (word_end s at)) chroma
   pub chroma_format : chroma_from chroma ≡ Some g.chroma_format
 
 -- a plane of an extent, whose samples are the next of a run
@@ -55,7 +63,7 @@ pub record PlanesAt (s : List ℕ) (at most : ℕ) (p : Planes) : Type 0 where
   pub y_at : ExtentAt s at y
   pub cb_at : ExtentAt s (third_end s at) cb
   pub cr_at : ExtentAt s (third_end s (third_end s at)) cr
-  pub seed_at : pos seed ≡ field s (third_end s (third_end s (third_end s at)))
+  pub seed_at : NumberAt s (extents_end s at) seed
   pub few : y.length + cb.length + cr.length ≤ most
   pub y_drawn : DrawnFrom seed y p.y
   pub cb_drawn : DrawnFrom (number_after seed y.length) cb p.cb

@@ -1,13 +1,14 @@
 //! The planes that cases pass for the references, also where these say that they are absent.
-ghost use Rattle.std.specs.Prelude.{◌≡◌, ◌≤◌, pos, Ok, IfOk, OnErr};
+ghost use Rattle.std.specs.Prelude.{◌≡◌, ◌^◌, ◌≤◌, ◌<◌, ◌⊎◌, IfOk, IfErr, OnErr};
+ghost use Rattle.lists.specs.declared.unread.Unread.TheVariants.{Malformed};
 ghost use Rattle.lists.specs.Places.{MovesTo};
 ghost use Rattle.lists.specs.Text.{word_end};
-ghost use Rattle.lists.specs.Numbers.{number_at};
 ghost use Rattle.drawn.specs.Draws.{number_after};
-ghost use Rattle.drawn.specs.Fields.{third_end, ExtentAt, DrawnFrom, PlanesAt, IsEmpty, AreEmpty};
+ghost use Rattle.drawn.specs.declared.references.Extent.{Extent};
+ghost use Rattle.drawn.specs.Fields.{NumberAt, third_end, planes_end, ExtentAt, DrawnFrom, PlanesAt, IsEmpty, AreEmpty};
 
 use crate::draws::Draws;
-use forming_predictions::PlaneSides;
+use forming_predictions::{PlaneSides, ReferencePlane};
 use lists::{Cursor, Unread};
 use std::alloc::{AllocError, Global};
 
@@ -43,6 +44,8 @@ impl Extent {
     pub fn read(case: &mut Cursor<'_>, most: usize) -> Result<Extent, Unread>
         ensures extent { IfOk result (λ extent. ExtentAt case.old.text.now case.old.at extent) }
         ensures few { IfOk result (λ extent. extent.length ≤ most) }
+        ensures malformed { IfErr result (λ e. e ≡ Malformed) }
+        ensures refused { OnErr result ((extent : Extent) → extent.sides.width < 2 ^ 64 → extent.sides.height < 2 ^ 64 → extent.length ≤ most → ¬ (ExtentAt case.old.text.now case.old.at extent)) }
         ensures moved { IfOk result (λ _. MovesTo case.old case.new (third_end case.old.text.now case.old.at)) }
     {
         let sides = PlaneSides {
@@ -58,7 +61,18 @@ impl Extent {
 }
 
 impl Plane {
-    fn empty(alloc: Global) -> Plane
+    /// The plane as it is read.
+    pub fn lent(&self) -> ReferencePlane<'_>
+        ensures sides { result.sides ≡ self.now.sides }
+        ensures samples { result.samples.now ≡ self.now.samples.items }
+    {
+        ReferencePlane {
+            sides: self.sides,
+            samples: &self.samples,
+        }
+    }
+
+    pub fn empty(alloc: Global) -> Plane
         ensures { IsEmpty result }
     {
         Plane {
@@ -94,7 +108,8 @@ impl Planes {
 
     /// `WIDTH HEIGHT LENGTH` of each plane, of at most so many samples together, and `SEED`.
     fn read(alloc: Global, case: &mut Cursor<'_>, most: usize) -> Result<Planes, Unread>
-        ensures { IfOk result (λ planes. PlanesAt case.old.text.now case.old.at most planes) }
+        ensures planes { IfOk result (λ planes. PlanesAt case.old.text.now case.old.at most planes) }
+        ensures moved { IfOk result (λ _. MovesTo case.old case.new (planes_end case.old.text.now case.old.at)) }
     {
         let y = Extent::read(case, most)?;
         let cb = Extent::read(case, most - y.length)?;
@@ -121,9 +136,11 @@ impl References {
 
     /// Reads `REFERENCE`, 0 for the forward one and 1 for the backward one, and its planes.
     pub fn set(&mut self, alloc: Global, case: &mut Cursor<'_>, most: usize) -> Result<(), Unread>
-        ensures forward { number_at case.old.text.now case.old.at ≡ Ok (pos 0) → IfOk result (λ _. PlanesAt case.old.text.now (word_end case.old.text.now case.old.at) most self.new.forward × self.new.backward ≡ self.old.backward) }
-        ensures backward { number_at case.old.text.now case.old.at ≡ Ok (pos 1) → IfOk result (λ _. PlanesAt case.old.text.now (word_end case.old.text.now case.old.at) most self.new.backward × self.new.forward ≡ self.old.forward) }
+        ensures reference { IfOk result (λ _. NumberAt case.old.text.now case.old.at 0 ⊎ NumberAt case.old.text.now case.old.at 1) }
+        ensures forward { NumberAt case.old.text.now case.old.at 0 → IfOk result (λ _. PlanesAt case.old.text.now (word_end case.old.text.now case.old.at) most self.new.forward × self.new.backward ≡ self.old.backward) }
+        ensures backward { NumberAt case.old.text.now case.old.at 1 → IfOk result (λ _. PlanesAt case.old.text.now (word_end case.old.text.now case.old.at) most self.new.backward × self.new.forward ≡ self.old.forward) }
         ensures unchanged { OnErr result (self.new ≡ self.old) }
+        ensures moved { IfOk result (λ _. MovesTo case.old case.new (planes_end case.old.text.now (word_end case.old.text.now case.old.at))) }
     {
         match case.integer()? {
             0 => self.forward = Planes::read(alloc, case, most)?,

@@ -5,8 +5,8 @@ mod plane;
 mod predicting;
 mod splitting;
 
+use drawn::Plane;
 use lists::{Cursor, Unread};
-use plane::Plane;
 use std::alloc::Global;
 use std::io;
 
@@ -34,6 +34,6 @@ fn judge(alloc: Global, plane: &mut Plane, case: &mut Cursor<'_>) -> Result<bool
 
 fn main(rt: HostRuntime) -> io::Result<()> {
     let alloc = rt.alloc();
-    let mut plane = plane::empty(alloc);
+    let mut plane = Plane::empty(alloc);
     tally::replay(&rt, |case| judge(alloc, &mut plane, case))
 }

@@ -1,5 +1,5 @@
 //! Samples and blocks of a plane.
-use crate::plane::Plane;
+use drawn::Plane;
 use forming_predictions::{
     BlockSize, FieldParity, FieldReference, ReferencePlane, predict_block, predict_sample,
 };
@@ -17,17 +17,12 @@ enum Source<'a> {
 /// The source with a number: 0 is the top field, 1 the bottom field, 2 the frame.
 fn read_source<'a>(plane: &'a Plane, case: &mut Cursor<'_>) -> Result<Source<'a>, Unread> {
     let plane = plane.lent();
-    match case.integer()? {
-        0 => Ok(Source::Field(FieldReference {
-            plane,
-            parity: FieldParity::Top,
-        })),
-        1 => Ok(Source::Field(FieldReference {
-            plane,
-            parity: FieldParity::Bottom,
-        })),
+    match case.number::<u32>()? {
         2 => Ok(Source::Frame(plane)),
-        _ => Err(Unread::Malformed),
+        number => {
+            let parity = FieldParity::try_from(number).map_err(|_| Unread::Malformed)?;
+            Ok(Source::Field(FieldReference { plane, parity }))
+        }
     }
 }
 

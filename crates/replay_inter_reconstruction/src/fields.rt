@@ -1,5 +1,4 @@
 //! The fields of a line that have a meaning together.
-use forming_predictions::FieldParity;
 use inter_reconstruction::motion::{FieldVector, FieldVectorPair, MotionVectorPel};
 use lists::{Cursor, Unread};
 
@@ -15,9 +14,7 @@ fn vector(case: &mut Cursor<'_>) -> Result<MotionVectorPel, Unread> {
 fn field_vector(case: &mut Cursor<'_>) -> Result<FieldVector, Unread> {
     Ok(FieldVector {
         vector: vector(case)?,
-        reference_field: FieldParity::try_from(case.number::<u32>()?).map_err(
-            |_| Unread::Malformed,
-        )?,
+        reference_field: case.kind()?,
     })
 }
 

@@ -1,19 +1,11 @@
 //! Predicting a macroblock.
-use drawn::{Plane, Planes, References};
-use forming_predictions::ReferencePlane;
+use drawn::{Planes, References};
 use inter_reconstruction::frames::FrameBuffer;
 use inter_reconstruction::macroblock::predict_macroblock_planes;
 use inter_reconstruction::motion::{DirectionVectors, Motion, UsedDirections};
 use lists::{Cursor, Unread};
 use std::alloc::Global;
 use tally::{LONGEST, Lent, number_and_value};
-
-fn lent(plane: &Plane) -> ReferencePlane<'_> {
-    ReferencePlane {
-        sides: plane.sides,
-        samples: &plane.samples,
-    }
-}
 
 /// `PRESENT WIDTH HEIGHT CHROMA`: a reference with these planes.
 fn reference<'a>(
@@ -25,9 +17,9 @@ fn reference<'a>(
     }
     Ok(Some(FrameBuffer {
         geometry: drawn::geometry(case)?,
-        y: lent(&planes.y),
-        cb: lent(&planes.cb),
-        cr: lent(&planes.cr),
+        y: planes.y.lent(),
+        cb: planes.cb.lent(),
+        cr: planes.cr.lent(),
     }))
 }
 

@@ -6,7 +6,7 @@ use crate::pictures;
 use crate::pictures::{Component, Picture, scaled};
 use crate::steps::{Direction, Step};
 use forming_predictions::{FieldParity, split_component};
-use inter_reconstruction::motion::{FieldVector, FieldVectorPair, MotionVectorPel};
+use inter_reconstruction::motion::{DirectionVectors, FieldVectorPair, MotionVectorPel};
 use pmv::chroma::scale_chroma;
 use pmv::kinds::ChromaFormat;
 
@@ -47,11 +47,10 @@ fn moved(at: u8, by: i32, end: u8) -> (u8, u8)
 
 /// The rows of the plane that row y reads: of the frame, or of a field, whose lines are clamped before its row is taken.
 fn rows(y: u8, by: i32, field: Option<FieldParity>, end: u8) -> (u8, u8) {
-    let first = match field {
-        None => return moved(y, by, end),
-        Some(FieldParity::Top) => 0,
-        Some(FieldParity::Bottom) => 1,
+    let Some(parity) = field else {
+        return moved(y, by, end);
     };
+    let first = usize::from(parity) as u8;
     let (upper, lower) = moved(y / 2, by, end / 2);
     (upper * 2 + first, lower * 2 + first)
 }
@@ -92,16 +91,6 @@ impl Reading {
     }
 }
 
-fn still(reference_field: FieldParity) -> FieldVector {
-    FieldVector {
-        vector: MotionVectorPel {
-            horizontal: 0,
-            vertical: 0,
-        },
-        reference_field,
-    }
-}
-
 impl<'a> Used<'a> {
     fn of(uses: bool, direction: Direction, below: &'a [Picture<u64>]) -> Option<Self> {
         if !uses {
@@ -115,10 +104,7 @@ impl<'a> Used<'a> {
 
     /// Without motion the vector is zero, and each field reads its own parity.
     fn reading(self, field_based: bool, y: u8) -> Reading {
-        let vectors = self.motion.unwrap_or(FieldVectorPair {
-            top: still(FieldParity::Top),
-            bottom: still(FieldParity::Bottom),
-        });
+        let vectors = self.motion.unwrap_or(FieldVectorPair::still());
         if !field_based {
             return Reading {
                 vector: vectors.top.vector,

@@ -14,7 +14,8 @@ pub(crate) struct Direction {
     pub(crate) motion: Option<FieldVectorPair>,
 }
 
-/// The macroblock at this column and row of picture `target` is predicted and placed.
+/// The macroblock at this column and row of picture `target` is predicted and placed. Whether it is field-based is said once: a
+/// `DirectionMotion` in each direction could say it of one alone, and a pair is drawn for either kind.
 #[derive(Clone, Copy)]
 pub(crate) struct Step {
     pub(crate) target: usize,

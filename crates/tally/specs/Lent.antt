@@ -1,10 +1,10 @@
 -- What is lent to a call, and what the call leaves there.
-use Rattle.std.specs.Prelude.{◌≡◌, true, cond, List, ◌++◌, ℕ, ◌+◌, ◌-◌, ◌≤◌, pos, length, take, drop, eqb}
+use Rattle.std.specs.Prelude.{◌≡◌, true, cond, List, ◌++◌, ℕ, ◌+◌, ◌-◌, ◌≤◌, ◌<◌, pos, length, take, drop, eqb, Ok}
 use Rattle.std.specs.Borrow.{Lends, MutBor, Fml, Array, u8}
 use Rattle.std.specs.Vec.{with_items_from}
 use Rattle.laws.specs.Tabulate.{tabulate}
 use Rattle.lists.specs.Text.{word_at, word_end}
-use Rattle.lists.specs.Numbers.{number_of}
+use Rattle.lists.specs.Numbers.{number_at}
 use Rattle.lists.specs.ByteStrings.{is_bytes, bytes_of, ramp}
 use Rattle.tally.specs.declared.lent.Lent.{Lent}
 use Rattle.tally.specs.contracts.lent.Lent.{the_row}
@@ -28,13 +28,18 @@ pub record IsNew (bytes : List ℕ) (l : Lent) : Type 0 where
   pub room : l.room.items ≡ bytes
   pub kept : l.kept.items ≡ bytes
 
--- FILL LENGTH: so many bytes are lent, and all are a ramp
+-- FILL LENGTH: a byte, and how many bytes are lent
+pub record FillAt (s : List ℕ) (at first count : ℕ) : Type 0 where
+  pub first_at : number_at s at ≡ Ok (pos first)
+  pub byte : first < 256
+  pub count_at : number_at s (word_end s at) ≡ Ok (pos count)
+  pub few : count ≤ 1024
+
+-- so many bytes are lent, and all are a ramp
 pub record FilledAt (s : List ℕ) (at : ℕ) (l : Lent) : Type 0 where
   pub first : ℕ
   pub count : ℕ
-  pub first_at : pos first ≡ number_of (word_at s at)
-  pub count_at : pos count ≡ number_of (word_at s (word_end s at))
-  pub few : count ≤ 1024
+  pub fill : FillAt s at first count
   pub new : IsNew (tabulate (count + 16) (ramp first)) l
 
 -- BEFORE: these bytes are lent

@@ -1,9 +1,11 @@
 //! What is lent to a call, and what the call leaves there.
-ghost use Rattle.std.specs.Prelude.{◌≡◌, Decides, IfOk};
+ghost use Rattle.std.specs.Prelude.{◌≡◌, true, Decides, ℕ, IfOk, IfErr};
 ghost use Rattle.std.specs.Borrow.{sem};
+ghost use Rattle.lists.specs.declared.unread.Unread.TheVariants.{OutOfMemory};
 ghost use Rattle.lists.specs.Places.{MovesTo};
-ghost use Rattle.lists.specs.Text.{word_end};
-ghost use Rattle.tally.specs.Lent.{lent_of, behind_of, LendsFront, IsNew, FilledAt, HoldingAt, Holds, IsAsListed};
+ghost use Rattle.lists.specs.Text.{word_at, word_end};
+ghost use Rattle.lists.specs.ByteStrings.{is_bytes};
+ghost use Rattle.tally.specs.Lent.{lent_of, behind_of, LendsFront, IsNew, FillAt, FilledAt, HoldingAt, Holds, IsAsListed};
 
 use crate::LONGEST;
 use lists::{Cursor, Unread};
@@ -29,7 +31,8 @@ fn split(room: &[u8]) -> (&[u8], &[u8])
 
 impl Lent {
     fn new(room: Vec<u8>) -> Result<Lent, Unread>
-        ensures { IfOk result (IsNew room.items) }
+        ensures new { IfOk result (IsNew room.items) }
+        ensures memory { IfErr result (λ e. e ≡ OutOfMemory) }
     {
         let kept = room.clone()?;
         Ok(Lent { room, kept })
@@ -38,6 +41,7 @@ impl Lent {
     /// `FILL LENGTH`.
     pub fn filled(alloc: Global, case: &mut Cursor<'_>) -> Result<Lent, Unread>
         ensures filled { IfOk result (FilledAt case.old.text.now case.old.at) }
+        ensures refused { IfErr result (λ e. (first count : ℕ) → FillAt case.old.text.now case.old.at first count → e ≡ OutOfMemory) }
         ensures moved { IfOk result (λ _. MovesTo case.old case.new (word_end case.old.text.now (word_end case.old.text.now case.old.at))) }
     {
         let first = case.number::<u8>()?;
@@ -52,6 +56,7 @@ impl Lent {
     /// `BEFORE`.
     pub fn holding(alloc: Global, case: &mut Cursor<'_>) -> Result<Lent, Unread>
         ensures holding { IfOk result (HoldingAt case.old.text.now case.old.at) }
+        ensures refused { IfErr result (λ e. is_bytes (word_at case.old.text.now case.old.at) 1024 ≡ true → e ≡ OutOfMemory) }
         ensures moved { IfOk result (λ _. MovesTo case.old case.new (word_end case.old.text.now case.old.at)) }
     {
         let behind = lists::ramp(alloc, 77, BEHIND)?;

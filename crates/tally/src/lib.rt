@@ -45,7 +45,10 @@ impl Tally {
     pub fn comment(&mut self)
         ensures { self.new ≡ after_comment self.old }
     {
-        self.lines = self.lines.wrapping_add(1);
+        *self = Tally {
+            lines: self.lines.wrapping_add(1),
+            ..*self
+        };
     }
 
     /// Counts a case.
@@ -153,7 +156,8 @@ pub fn read<R: Alloc + Input + Print>(rt: &R) -> io::Result<Option<Vec<u8, R::A>
     Ok(None)
 }
 
-/// Replays the list from standard input: `judge` reads a case and says whether it agrees.
+/// Replays the list from standard input: `judge` reads a case and says whether it agrees. This promises nothing: its answer is that of
+/// the input and the output, of which contracts know nothing, and what it counts is only printed.
 pub fn replay<R: Alloc + Input + Print, J: FnMut(&mut Cursor<'_>) -> Result<bool, Unread>>(
     rt: &R,
     judge: J,

@@ -22,4 +22,4 @@ returns-clause-holding c =
       new = rw (← joined) h;
       sixteen = sixteen;
     })
-    c.new.ensures
+    c.new.ensures.new
