@@ -1,7 +1,7 @@
 -- What a number's reading says of its meaning.
 -- Assumes nothing.
 use mathlib.Core.Path.{◌≡◌, refl}
-use mathlib.Core.Bool.{Bool, true, false}
+use mathlib.Core.Bool.{Bool, true, false, ◌&&◌}
 use Rattle.std.specs.Prelude.{Option, Some, None, Result, Ok, Err, is_some, is_ok, ok_or, unwrap_or}
 use Rattle.std.specs.Result.{result_unwrap_or}
 use Rattle.forming_predictions.specs.Parities.{no_meaning}
@@ -11,6 +11,10 @@ use Rattle.entry_points.specs.inner.Reading.{read_where}
 pub known_ok : {A : Type 0} (o : Option A) → is_ok (ok_or o no_meaning) ≡ is_some o
 known_ok None = refl
 known_ok (Some x) = refl
+
+pub with_true : (b : Bool) → (b && true) ≡ b
+with_true true = refl
+with_true false = refl
 
 pub read_value : {A : Type 0} (o : Option A) (d : A) {r : Result A NoMeaning} {x : A}
     → x ≡ result_unwrap_or r d → r ≡ ok_or o no_meaning → x ≡ unwrap_or o d

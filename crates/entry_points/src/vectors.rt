@@ -57,8 +57,7 @@ fn predictor_bytes(p: Pmv) -> [u8; 32]
 }
 
 /// PMV\[r\]\[s\]\[1:0\] in the 32 bytes of the predictors.
-fn load_pair(bytes: &[u8], r: VectorIndex, s: Direction) -> PredictorPair
-    requires { length bytes.now ≡ 32 }
+fn load_pair(bytes: &[u8; 32], r: VectorIndex, s: Direction) -> PredictorPair
     ensures { result ≡ pair_of (predictors_of bytes.now) r s }
 {
     let k = 4 * place_of(r, s, Component::Horizontal);
@@ -70,8 +69,7 @@ fn load_pair(bytes: &[u8], r: VectorIndex, s: Direction) -> PredictorPair
 
 /// All predictors.
 #[tactic(auto, unfolding(crate::specs::Layout::predictors_of))]
-fn load_predictors(bytes: &[u8]) -> Pmv
-    requires { length bytes.now ≡ 32 }
+fn load_predictors(bytes: &[u8; 32]) -> Pmv
     ensures { result ≡ predictors_of bytes.now }
 {
     Pmv {
@@ -90,8 +88,7 @@ fn load_predictors(bytes: &[u8]) -> Pmv
 
 /// PMV\[r\]\[s\]\[1:0\] replaced in the 32 bytes of the predictors.
 #[tactic(auto, unfolding(crate::specs::Layout::with_pair), using(crate::proofs::Words::replaced_is))]
-fn replace_pair(pair: PredictorPair, r: VectorIndex, s: Direction, out: &mut [u8])
-    requires { length out.old ≡ 32 }
+fn replace_pair(pair: PredictorPair, r: VectorIndex, s: Direction, out: &mut [u8; 32])
     ensures { out.new ≡ with_pair out.old r s pair }
 {
     let k = 4 * place_of(r, s, Component::Horizontal);
@@ -125,7 +122,7 @@ fn type_of(present: u32, number: u32) -> Option<PredictionType>
 }
 
 /// Whether the numbers that a vector is read with have a meaning, and the buffers their lengths.
-#[tactic(auto, unfolding(crate::specs::Entries::vector_known), using(crate::proofs::Reading::known_ok))]
+#[tactic(auto, unfolding(crate::specs::Entries::vector_known), using(crate::proofs::Reading::known_ok, crate::proofs::Reading::with_true))]
 fn vector_known(
     r: u32,
     s: u32,
@@ -133,10 +130,8 @@ fn vector_known(
     vert_present: u32,
     mv_format: u32,
     picture_structure: u32,
-    predictors: usize,
-    vector: usize,
 ) -> bool
-    ensures { result ≡ vector_known r s horiz_present vert_present mv_format picture_structure predictors vector }
+    ensures { result ≡ vector_known r s horiz_present vert_present mv_format picture_structure 32 8 }
 {
     let index = VectorIndex::try_from(r);
     let direction = Direction::try_from(s);
@@ -145,11 +140,11 @@ fn vector_known(
     let format = MvFormat::try_from(mv_format);
     let structure = PictureStructure::try_from(picture_structure);
     (index.is_ok() & (direction.is_ok() & (horiz.is_ok() & vert.is_ok())))
-        & ((format.is_ok() & structure.is_ok()) & ((predictors == 32) & (vector == 8)))
+        & (format.is_ok() & structure.is_ok())
 }
 
 /// The same for an update. A motion type that is absent is not read.
-#[tactic(auto, unfolding(crate::specs::Entries::update_known), using(crate::proofs::Reading::known_ok))]
+#[tactic(auto, unfolding(crate::specs::Entries::update_known), using(crate::proofs::Reading::known_ok, crate::proofs::Reading::with_true))]
 fn update_known(
     picture_structure: u32,
     type_present: u32,
@@ -158,10 +153,8 @@ fn update_known(
     backward: u32,
     intra: u32,
     concealment: u32,
-    predictors: usize,
-    outcome: usize,
 ) -> bool
-    ensures { result ≡ update_known picture_structure type_present prediction_type forward backward intra concealment predictors outcome }
+    ensures { result ≡ update_known picture_structure type_present prediction_type forward backward intra concealment 32 1 }
 {
     let structure = PictureStructure::try_from(picture_structure);
     let present = flag_from_number(type_present);
@@ -171,15 +164,13 @@ fn update_known(
     let i = flag_from_number(intra);
     let c = flag_from_number(concealment);
     (structure.is_ok() & (present.is_ok() & (!is_yes(type_present) | kind.is_ok())))
-        & (((f.is_ok() & b.is_ok()) & (i.is_ok() & c.is_ok()))
-            & ((predictors == 32) & (outcome == 1)))
+        & ((f.is_ok() & b.is_ok()) & (i.is_ok() & c.is_ok()))
 }
 
 // ---- on buffers of the right lengths
 
 /// Both components, where the vector is accepted: 0, or the number of the refusal.
-fn store_vector(answer: Result<VectorComponents, VectorRefusal>, out: &mut [u8]) -> u32
-    requires { length out.old ≡ 8 }
+fn store_vector(answer: Result<VectorComponents, VectorRefusal>, out: &mut [u8; 8]) -> u32
     ensures number { result ≡ refusal_number vector_number (result_err answer) }
     ensures buffer { out.new ≡ vector_bytes answer out.old }
 {
@@ -203,10 +194,9 @@ fn vector_in_bytes(
     f_code_vert: u8,
     mv_format: MvFormat,
     picture: PictureStructure,
-    predictors: &mut [u8],
-    vector: &mut [u8],
+    predictors: &mut [u8; 32],
+    vector: &mut [u8; 8],
 ) -> u32
-    requires { (length predictors.old ≡ 32) × (length vector.old ≡ 8) }
     ensures number { result ≡ refusal_number vector_number (result_err (vector_from predictors.old r s mv f_code_horiz f_code_vert mv_format picture).answer) }
     ensures predictors { predictors.new ≡ with_pair predictors.old r s (vector_from predictors.old r s mv f_code_horiz f_code_vert mv_format picture).predictors }
     ensures vector { vector.new ≡ vector_bytes (vector_from predictors.old r s mv f_code_horiz f_code_vert mv_format picture).answer vector.old }
@@ -245,14 +235,13 @@ fn update_code(answer: Result<PmvUpdateOutcome, UpdateRefusal>) -> u32
 
 /// An update, on buffers of the right lengths. Both buffers are written either way, a refusal with what they hold, so that no jump depends on
 /// the answer.
-fn update_in_bytes(ctx: PmvUpdateContext, predictors: &mut [u8], outcome: &mut [u8]) -> u32
-    requires { (length predictors.old ≡ 32) × (length outcome.old ≡ 1) }
+fn update_in_bytes(ctx: PmvUpdateContext, predictors: &mut [u8; 32], outcome: &mut [u8; 1]) -> u32
     ensures number { result ≡ refusal_number update_number (update_refusal ctx) }
     ensures predictors { predictors.new ≡ unless_number result (predictor_bytes (updated (predictors_of predictors.old) ctx).pmv) predictors.old }
     ensures outcome { outcome.new ≡ unless_number result (outcome_number (update_outcome ctx) ∷ []) outcome.old }
 {
     let update = updated_predictors(load_predictors(predictors), ctx);
-    predictors.copy_from_slice(&predictor_bytes(update.pmv));
+    *predictors = predictor_bytes(update.pmv);
     outcome[0] = outcome_byte(update.answer, outcome[0]);
     update_code(update.answer)
 }
@@ -260,6 +249,7 @@ fn update_in_bytes(ctx: PmvUpdateContext, predictors: &mut [u8], outcome: &mut [
 // ---- the calls
 
 /// A vector's two components against its predictors: 0, or the number of the refusal.
+#[tactic(auto, using(crate::proofs::Updates::unless_predictors, crate::proofs::Updates::unless_components))]
 pub fn fozdrik_reconstruct_motion_vector(
     r: u32,
     s: u32,
@@ -289,6 +279,12 @@ pub fn fozdrik_reconstruct_motion_vector(
         let decoded = vector_from predictors.old (index_of r) (direction_of s) coded f_code_horiz f_code_vert (format_of mv_format) (structure_of picture_structure) in
         vector.new ≡ cond known (vector_bytes decoded.answer vector.old) vector.old }
 {
+    let Some(predictors) = predictors.as_mut_array::<32>() else {
+        return NO_MEANING;
+    };
+    let Some(vector) = vector.as_mut_array::<8>() else {
+        return NO_MEANING;
+    };
     if !vector_known(
         r,
         s,
@@ -296,8 +292,6 @@ pub fn fozdrik_reconstruct_motion_vector(
         motion_residual_vert_present,
         mv_format,
         picture_structure,
-        predictors.len(),
-        vector.len(),
     ) {
         return NO_MEANING;
     }
@@ -323,7 +317,7 @@ pub fn fozdrik_reconstruct_motion_vector(
 }
 
 /// The predictors after a macroblock, and the outcome's number in one byte: 0, or the number of the refusal.
-#[tactic(auto, using(crate::proofs::Updates::update_lengths))]
+#[tactic(auto, using(crate::proofs::Updates::unless_updated, crate::proofs::Updates::unless_outcome))]
 pub fn fozdrik_update_predictors(
     picture_structure: u32,
     prediction_type_present: u32,
@@ -343,6 +337,12 @@ pub fn fozdrik_update_predictors(
     ensures outcome { let context = context_of picture_structure prediction_type_present prediction_type macroblock_motion_forward macroblock_motion_backward macroblock_intra concealment_motion_vectors in
         outcome.new ≡ unless_number result (outcome_number (update_outcome context) ∷ []) outcome.old }
 {
+    let Some(predictors) = predictors.as_mut_array::<32>() else {
+        return NO_MEANING;
+    };
+    let Some(outcome) = outcome.as_mut_array::<1>() else {
+        return NO_MEANING;
+    };
     if !update_known(
         picture_structure,
         prediction_type_present,
@@ -351,8 +351,6 @@ pub fn fozdrik_update_predictors(
         macroblock_motion_backward,
         macroblock_intra,
         concealment_motion_vectors,
-        predictors.len(),
-        outcome.len(),
     ) {
         return NO_MEANING;
     }

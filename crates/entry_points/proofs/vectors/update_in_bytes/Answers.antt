@@ -15,7 +15,7 @@ returns-clause-predictors c =
     let p = c.args.predictors.now in
     let r = c.updated_predictors-update.result in
     let e = rw c.load_predictors.ensures at c.updated_predictors-update.ensures.update in
-    let h = updated_left c.args.ctx p c.args.outcome.now c.requires.0 (λ i. search rules) c.requires.1 r e in
+    let h = updated_left c.args.ctx p c.args.outcome.now (search rules) (λ i. search rules) (search rules) r e in
     rw (c.update_code.ensures, h.0)
-    (c.copy_from_slice.ensures.after ∙ c.predictor_bytes.ensures ∙ h.1.0
+    (c.predictor_bytes.ensures ∙ h.1.0
     ∙ ap (λ (v : PredictorUpdate). unless_number (refusal_number update_number (update_refusal c.args.ctx)) (predictor_bytes v.pmv) p) e)
