@@ -121,7 +121,7 @@ fn type_of(present: u32, number: u32) -> Option<PredictionType>
     Some(PredictionType::try_from(number).unwrap_or(PredictionType::FieldBased))
 }
 
-/// Whether the numbers that a vector is read with have a meaning, and the buffers their lengths.
+/// Whether the numbers that a vector is read with have a meaning, where both buffers have their lengths.
 #[tactic(auto, unfolding(crate::specs::Entries::vector_known), using(crate::proofs::Reading::known_ok, crate::proofs::Reading::with_true))]
 fn vector_known(
     r: u32,
@@ -143,8 +143,9 @@ fn vector_known(
         & (format.is_ok() & structure.is_ok())
 }
 
-/// The same for an update. A motion type that is absent is not read.
-#[tactic(auto, unfolding(crate::specs::Entries::update_known), using(crate::proofs::Reading::known_ok, crate::proofs::Reading::with_true))]
+/// Whether those of an update have, and the buffers their lengths. A motion type that is absent is not read. The nine parameters are those of
+/// the C call.
+#[tactic(auto, unfolding(crate::specs::Entries::update_known), using(crate::proofs::Reading::known_ok))]
 fn update_known(
     picture_structure: u32,
     type_present: u32,
@@ -153,8 +154,10 @@ fn update_known(
     backward: u32,
     intra: u32,
     concealment: u32,
+    predictors: usize,
+    outcome: usize,
 ) -> bool
-    ensures { result ≡ update_known picture_structure type_present prediction_type forward backward intra concealment 32 1 }
+    ensures { result ≡ update_known picture_structure type_present prediction_type forward backward intra concealment predictors outcome }
 {
     let structure = PictureStructure::try_from(picture_structure);
     let present = flag_from_number(type_present);
@@ -164,7 +167,8 @@ fn update_known(
     let i = flag_from_number(intra);
     let c = flag_from_number(concealment);
     (structure.is_ok() & (present.is_ok() & (!is_yes(type_present) | kind.is_ok())))
-        & ((f.is_ok() & b.is_ok()) & (i.is_ok() & c.is_ok()))
+        & (((f.is_ok() & b.is_ok()) & (i.is_ok() & c.is_ok()))
+            & ((predictors == 32) & (outcome == 1)))
 }
 
 // ---- on buffers of the right lengths
@@ -185,7 +189,8 @@ fn store_vector(answer: Result<VectorComponents, VectorRefusal>, out: &mut [u8; 
     }
 }
 
-/// A vector, on buffers of the right lengths. Where the vertical part is refused, the new horizontal predictor remains.
+/// A vector, on its buffers. Where the vertical part is refused, the new horizontal predictor remains. The nine parameters are those of the
+/// layer's call, with the place of its pair, and both buffers.
 fn vector_in_bytes(
     r: VectorIndex,
     s: Direction,
@@ -233,7 +238,7 @@ fn update_code(answer: Result<PmvUpdateOutcome, UpdateRefusal>) -> u32
     }
 }
 
-/// An update, on buffers of the right lengths. Both buffers are written either way, a refusal with what they hold, so that no jump depends on
+/// An update, on its buffers. Both buffers are written either way, a refusal with what they hold, so that no jump depends on
 /// the answer.
 fn update_in_bytes(ctx: PmvUpdateContext, predictors: &mut [u8; 32], outcome: &mut [u8; 1]) -> u32
     ensures number { result ≡ refusal_number update_number (update_refusal ctx) }
@@ -337,12 +342,6 @@ pub fn fozdrik_update_predictors(
     ensures outcome { let context = context_of picture_structure prediction_type_present prediction_type macroblock_motion_forward macroblock_motion_backward macroblock_intra concealment_motion_vectors in
         outcome.new ≡ unless_number result (outcome_number (update_outcome context) ∷ []) outcome.old }
 {
-    let Some(predictors) = predictors.as_mut_array::<32>() else {
-        return NO_MEANING;
-    };
-    let Some(outcome) = outcome.as_mut_array::<1>() else {
-        return NO_MEANING;
-    };
     if !update_known(
         picture_structure,
         prediction_type_present,
@@ -351,9 +350,16 @@ pub fn fozdrik_update_predictors(
         macroblock_motion_backward,
         macroblock_intra,
         concealment_motion_vectors,
+        predictors.len(),
+        outcome.len(),
     ) {
         return NO_MEANING;
     }
+    // Both lengths are tested above, with the numbers: by these alone, an update took 128 instructions for 116.
+    let (Some(predictors), Some(outcome)) = (predictors.as_mut_array(), outcome.as_mut_array())
+    else {
+        return NO_MEANING;
+    };
     let structure = PictureStructure::try_from(picture_structure);
     update_in_bytes(
         PmvUpdateContext {
