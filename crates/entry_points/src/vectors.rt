@@ -9,6 +9,7 @@ ghost use Rattle.entry_points.specs.Layout.{bytes_of, number_at, pair_bytes, pre
 ghost use Rattle.entry_points.specs.Entries.{call_number, unless_number, residual_of, type_of, vector_known, update_known, index_of, direction_of, format_of, structure_of, motion_vector_of, context_of, vector_from, vector_bytes};
 ghost use Rattle.entry_points.specs.inner.Outcomes.{outcome_byte};
 
+use crate::numbers::code_of;
 use crate::prediction::{NO_MEANING, is_yes};
 use pmv::component::VectorRefusal;
 use pmv::kinds::{
@@ -173,24 +174,20 @@ fn update_known(
 
 // ---- on buffers of the right lengths
 
-/// Both components, where the vector is accepted: 0, or the number of the refusal.
-fn store_vector(answer: Result<VectorComponents, VectorRefusal>, out: &mut [u8; 8]) -> u32
-    ensures number { result ≡ refusal_number vector_number (result_err answer) }
-    ensures buffer { out.new ≡ vector_bytes answer out.old }
+/// Both components, where the vector is accepted.
+fn store_vector(answer: Result<VectorComponents, VectorRefusal>, out: &mut [u8; 8])
+    ensures { out.new ≡ vector_bytes answer out.old }
 {
-    match answer {
-        Ok(c) => {
-            let h = c.horizontal;
-            let v = c.vertical;
-            store_pair(h.vector_prime, v.vector_prime, out);
-            0
-        }
-        Err(refusal) => refusal.into(),
+    if let Ok(c) = answer {
+        let h = c.horizontal;
+        let v = c.vertical;
+        store_pair(h.vector_prime, v.vector_prime, out);
     }
 }
 
 /// A vector, on its buffers. Where the vertical part is refused, the new horizontal predictor remains. The nine parameters are those of the
 /// layer's call, with the place of its pair, and both buffers.
+#[tactic(auto, using(crate::proofs::Reading::code_is))]
 fn vector_in_bytes(
     r: VectorIndex,
     s: Direction,
@@ -215,7 +212,8 @@ fn vector_in_bytes(
         picture,
     );
     replace_pair(decoded.predictors, r, s, predictors);
-    store_vector(decoded.answer, vector)
+    store_vector(decoded.answer, vector);
+    code_of(decoded.answer)
 }
 
 /// The byte for the outcome: its number, or what was there where the update is refused.
@@ -228,18 +226,9 @@ fn outcome_byte(answer: Result<PmvUpdateOutcome, UpdateRefusal>, before: u8) -> 
     }
 }
 
-/// 0, or the number of the refusal.
-fn update_code(answer: Result<PmvUpdateOutcome, UpdateRefusal>) -> u32
-    ensures { result ≡ refusal_number update_number (result_err answer) }
-{
-    match answer {
-        Ok(_) => 0,
-        Err(refusal) => refusal.into(),
-    }
-}
-
 /// An update, on its buffers. Both buffers are written either way, a refusal with what they hold, so that no jump depends on
 /// the answer.
+#[tactic(auto, using(crate::proofs::Reading::code_is))]
 fn update_in_bytes(ctx: PmvUpdateContext, predictors: &mut [u8; 32], outcome: &mut [u8; 1]) -> u32
     ensures number { result ≡ refusal_number update_number (update_refusal ctx) }
     ensures predictors { predictors.new ≡ unless_number result (predictor_bytes (updated (predictors_of predictors.old) ctx).pmv) predictors.old }
@@ -248,7 +237,7 @@ fn update_in_bytes(ctx: PmvUpdateContext, predictors: &mut [u8; 32], outcome: &m
     let update = updated_predictors(load_predictors(predictors), ctx);
     *predictors = predictor_bytes(update.pmv);
     outcome[0] = outcome_byte(update.answer, outcome[0]);
-    update_code(update.answer)
+    code_of(update.answer)
 }
 
 // ---- the calls
