@@ -202,6 +202,7 @@ pub(crate) fn read_prediction<'a, N: VectorNumbers>(
 }
 
 /// 0, or the number of the refusal.
+#[inline(always)] // as a call of its own, a macroblock took 4 to 26 instructions more
 pub(crate) fn code_of<T: Drop, R: Into<u32>>(answer: Result<T, R>) -> u32
     ensures { MatchResult answer (λ _. result ≡ 0) (λ refusal. R.Into.converts refusal result) }
 {
