@@ -1,9 +1,8 @@
 -- What is promised of references that hold their samples is what is promised of their numbers with the samples beside them: of a reference
 -- that is absent neither numbers nor samples are looked at.
 -- Assumes nothing.
-use mathlib.Core.Path.{◌≡◌, refl, ap}
+use mathlib.Core.Path.{◌≡◌, refl}
 use mathlib.Core.Bool.{Bool, true, false}
-use mathlib.Core.List.{List}
 use Prim.Native.Nat.{ℕ}
 use Rattle.std.specs.Prelude.{cond, Option, Some, None, is_some}
 use Rattle.forming_predictions.specs.Means.{rounded}
@@ -16,7 +15,6 @@ use Rattle.inter_reconstruction.specs.Answers.{refusal_from, prediction_from}
 use Rattle.inter_reconstruction.specs.declared.frames.FrameBuffer.{FrameBuffer}
 use Rattle.inter_reconstruction.specs.declared.frames.FrameGeometry.{FrameGeometry}
 use Rattle.inter_reconstruction.specs.declared.frames.FrameSides.{FrameSides}
-use Rattle.inter_reconstruction.specs.declared.macroblock.PredictionRefusal.{PredictionRefusal}
 use Rattle.inter_reconstruction.specs.declared.motion.Uses.{Uses}
 use Rattle.inter_reconstruction.specs.declared.motion.Uses.TheVariants.{Forward, Backward, Both}
 use Rattle.entry_points.specs.Entries.{is_yes, reference_of}

@@ -1,15 +1,16 @@
 -- What an update leaves in its buffers, and the lengths of the buffers of the C entry points for vectors and updates.
 -- Assumes nothing.
 use mathlib.Core.Path.{◌≡◌, refl, sym, ◌∙◌}
-use mathlib.Core.Bool.{true, ◌&&◌}
+use mathlib.Core.Bool.{true, false, ◌&&◌}
 use mathlib.Core.List.{List, [], ◌∷◌}
 use Prim.Native.Nat.{ℕ, ◌<◌}
 use native.Mathlib.Omega.{arith}
 use lib.Dec.{eqb}
 use lib.ListN.{length, get_or, set}
 use borrow.Author.Tests.{eqb-true}
+use Rattle.std.proofs.lemmas.Bool.{false_from_ne_true}
 use Rattle.laws.proofs.Tests.{both}
-use Rattle.std.specs.Prelude.{Option, Some, None, Result, is_some}
+use Rattle.std.specs.Prelude.{◌≢◌, Option, Some, None, Result, is_some}
 use Rattle.std.specs.Result.{result_err}
 use Rattle.combine_predictions.specs.Refusals.{refusal_number, answered, unless_refused}
 use Rattle.pmv.specs.Refusals.{update_number}
@@ -71,6 +72,12 @@ vector_lengths r s h v f t p n e =
     let c = both (eqb p 32) (eqb n 8) b.1 in
     (eqb-true p 32 c.0, eqb-true n 8 c.1)
 
+pub unless_predictors : (r s h v f t p n : ℕ) → p ≢ 32 → vector_known r s h v f t p n ≡ false
+unless_predictors r s h v f t p n ne = false_from_ne_true _ (λ e. ne (vector_lengths r s h v f t p n e).0)
+
+pub unless_components : (r s h v f t p n : ℕ) → n ≢ 8 → vector_known r s h v f t p n ≡ false
+unless_components r s h v f t p n ne = false_from_ne_true _ (λ e. ne (vector_lengths r s h v f t p n e).1)
+
 pub update_lengths : (t y k f b i c p n : ℕ) → update_known t y k f b i c p n ≡ true → (p ≡ 32) × (n ≡ 1)
 unfolding update_known
 update_lengths t y k f b i c p n e =
@@ -79,3 +86,9 @@ update_lengths t y k f b i c p n e =
     let h = both flags (eqb p 32 && eqb n 1) g.1 in
     let l = both (eqb p 32) (eqb n 1) h.1 in
     (eqb-true p 32 l.0, eqb-true n 1 l.1)
+
+pub unless_updated : (t y k f b i c p n : ℕ) → p ≢ 32 → update_known t y k f b i c p n ≡ false
+unless_updated t y k f b i c p n ne = false_from_ne_true _ (λ e. ne (update_lengths t y k f b i c p n e).0)
+
+pub unless_outcome : (t y k f b i c p n : ℕ) → n ≢ 1 → update_known t y k f b i c p n ≡ false
+unless_outcome t y k f b i c p n ne = false_from_ne_true _ (λ e. ne (update_lengths t y k f b i c p n e).1)

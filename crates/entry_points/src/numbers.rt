@@ -1,5 +1,5 @@
 //! What the numbers of a C call mean, where those that are read have a meaning, and the layer's call on it.
-ghost use Rattle.std.specs.Prelude.{◌≡◌, ◌&&◌, Bool, Option, length, is_some};
+ghost use Rattle.std.specs.Prelude.{◌≡◌, ◌&&◌, Bool, Option, length, is_some, MatchResult};
 ghost use Rattle.combine_predictions.specs.Refusals.{refusal_number};
 ghost use Rattle.forming_predictions.specs.Parities.{parity_from};
 ghost use Rattle.pmv.specs.Kinds.{flag_from, chroma_from};
@@ -201,6 +201,17 @@ pub(crate) fn read_prediction<'a, N: VectorNumbers>(
     })
 }
 
+/// 0, or the number of the refusal.
+#[inline(always)] // as a call of its own, a macroblock took 4 to 26 instructions more
+pub(crate) fn code_of<T: Drop, R: Into<u32>>(answer: Result<T, R>) -> u32
+    ensures { MatchResult answer (λ _. result ≡ 0) (λ refusal. R.Into.converts refusal result) }
+{
+    match answer {
+        Ok(_) => 0,
+        Err(refusal) => refusal.into(),
+    }
+}
+
 /// The layer's call on what was read: 0, or the number of the refusal.
 pub(crate) fn predict_read<V: DirectionVectors>(
     read: PredictionRead<'_, V>,
@@ -217,7 +228,7 @@ pub(crate) fn predict_read<V: DirectionVectors>(
         let used = uses_by V.motion V.still read.entry.motion (is_some forward) (is_some backward) in
         out.new ≡ unless_number result (prediction_from read.entry.dest.chroma_format forward backward used mb_col mb_row) out.old }
 {
-    match predict_macroblock_planes(
+    code_of(predict_macroblock_planes(
         read.dest,
         read.forward,
         read.backward,
@@ -225,8 +236,5 @@ pub(crate) fn predict_read<V: DirectionVectors>(
         mb_row,
         read.motion,
         out,
-    ) {
-        Ok(_) => 0,
-        Err(refusal) => refusal.into(),
-    }
+    ))
 }

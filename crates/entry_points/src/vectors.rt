@@ -9,6 +9,7 @@ ghost use Rattle.entry_points.specs.Layout.{bytes_of, number_at, pair_bytes, pre
 ghost use Rattle.entry_points.specs.Entries.{call_number, unless_number, residual_of, type_of, vector_known, update_known, index_of, direction_of, format_of, structure_of, motion_vector_of, context_of, vector_from, vector_bytes};
 ghost use Rattle.entry_points.specs.inner.Outcomes.{outcome_byte};
 
+use crate::numbers::code_of;
 use crate::prediction::{NO_MEANING, is_yes};
 use pmv::component::VectorRefusal;
 use pmv::kinds::{
@@ -57,8 +58,7 @@ fn predictor_bytes(p: Pmv) -> [u8; 32]
 }
 
 /// PMV\[r\]\[s\]\[1:0\] in the 32 bytes of the predictors.
-fn load_pair(bytes: &[u8], r: VectorIndex, s: Direction) -> PredictorPair
-    requires { length bytes.now ≡ 32 }
+fn load_pair(bytes: &[u8; 32], r: VectorIndex, s: Direction) -> PredictorPair
     ensures { result ≡ pair_of (predictors_of bytes.now) r s }
 {
     let k = 4 * place_of(r, s, Component::Horizontal);
@@ -70,8 +70,7 @@ fn load_pair(bytes: &[u8], r: VectorIndex, s: Direction) -> PredictorPair
 
 /// All predictors.
 #[tactic(auto, unfolding(crate::specs::Layout::predictors_of))]
-fn load_predictors(bytes: &[u8]) -> Pmv
-    requires { length bytes.now ≡ 32 }
+fn load_predictors(bytes: &[u8; 32]) -> Pmv
     ensures { result ≡ predictors_of bytes.now }
 {
     Pmv {
@@ -90,8 +89,7 @@ fn load_predictors(bytes: &[u8]) -> Pmv
 
 /// PMV\[r\]\[s\]\[1:0\] replaced in the 32 bytes of the predictors.
 #[tactic(auto, unfolding(crate::specs::Layout::with_pair), using(crate::proofs::Words::replaced_is))]
-fn replace_pair(pair: PredictorPair, r: VectorIndex, s: Direction, out: &mut [u8])
-    requires { length out.old ≡ 32 }
+fn replace_pair(pair: PredictorPair, r: VectorIndex, s: Direction, out: &mut [u8; 32])
     ensures { out.new ≡ with_pair out.old r s pair }
 {
     let k = 4 * place_of(r, s, Component::Horizontal);
@@ -124,8 +122,8 @@ fn type_of(present: u32, number: u32) -> Option<PredictionType>
     Some(PredictionType::try_from(number).unwrap_or(PredictionType::FieldBased))
 }
 
-/// Whether the numbers that a vector is read with have a meaning, and the buffers their lengths.
-#[tactic(auto, unfolding(crate::specs::Entries::vector_known), using(crate::proofs::Reading::known_ok))]
+/// Whether the numbers that a vector is read with have a meaning, where both buffers have their lengths.
+#[tactic(auto, unfolding(crate::specs::Entries::vector_known), using(crate::proofs::Reading::known_ok, crate::proofs::Reading::with_true))]
 fn vector_known(
     r: u32,
     s: u32,
@@ -133,10 +131,8 @@ fn vector_known(
     vert_present: u32,
     mv_format: u32,
     picture_structure: u32,
-    predictors: usize,
-    vector: usize,
 ) -> bool
-    ensures { result ≡ vector_known r s horiz_present vert_present mv_format picture_structure predictors vector }
+    ensures { result ≡ vector_known r s horiz_present vert_present mv_format picture_structure 32 8 }
 {
     let index = VectorIndex::try_from(r);
     let direction = Direction::try_from(s);
@@ -145,10 +141,11 @@ fn vector_known(
     let format = MvFormat::try_from(mv_format);
     let structure = PictureStructure::try_from(picture_structure);
     (index.is_ok() & (direction.is_ok() & (horiz.is_ok() & vert.is_ok())))
-        & ((format.is_ok() & structure.is_ok()) & ((predictors == 32) & (vector == 8)))
+        & (format.is_ok() & structure.is_ok())
 }
 
-/// The same for an update. A motion type that is absent is not read.
+/// Whether those of an update have, and the buffers their lengths. A motion type that is absent is not read. The nine parameters are those of
+/// the C call.
 #[tactic(auto, unfolding(crate::specs::Entries::update_known), using(crate::proofs::Reading::known_ok))]
 fn update_known(
     picture_structure: u32,
@@ -177,24 +174,20 @@ fn update_known(
 
 // ---- on buffers of the right lengths
 
-/// Both components, where the vector is accepted: 0, or the number of the refusal.
-fn store_vector(answer: Result<VectorComponents, VectorRefusal>, out: &mut [u8]) -> u32
-    requires { length out.old ≡ 8 }
-    ensures number { result ≡ refusal_number vector_number (result_err answer) }
-    ensures buffer { out.new ≡ vector_bytes answer out.old }
+/// Both components, where the vector is accepted.
+fn store_vector(answer: Result<VectorComponents, VectorRefusal>, out: &mut [u8; 8])
+    ensures { out.new ≡ vector_bytes answer out.old }
 {
-    match answer {
-        Ok(c) => {
-            let h = c.horizontal;
-            let v = c.vertical;
-            store_pair(h.vector_prime, v.vector_prime, out);
-            0
-        }
-        Err(refusal) => refusal.into(),
+    if let Ok(c) = answer {
+        let h = c.horizontal;
+        let v = c.vertical;
+        store_pair(h.vector_prime, v.vector_prime, out);
     }
 }
 
-/// A vector, on buffers of the right lengths. Where the vertical part is refused, the new horizontal predictor remains.
+/// A vector, on its buffers. Where the vertical part is refused, the new horizontal predictor remains. The nine parameters are those of the
+/// layer's call, with the place of its pair, and both buffers.
+#[tactic(auto, using(crate::proofs::Reading::code_is))]
 fn vector_in_bytes(
     r: VectorIndex,
     s: Direction,
@@ -203,10 +196,9 @@ fn vector_in_bytes(
     f_code_vert: u8,
     mv_format: MvFormat,
     picture: PictureStructure,
-    predictors: &mut [u8],
-    vector: &mut [u8],
+    predictors: &mut [u8; 32],
+    vector: &mut [u8; 8],
 ) -> u32
-    requires { (length predictors.old ≡ 32) × (length vector.old ≡ 8) }
     ensures number { result ≡ refusal_number vector_number (result_err (vector_from predictors.old r s mv f_code_horiz f_code_vert mv_format picture).answer) }
     ensures predictors { predictors.new ≡ with_pair predictors.old r s (vector_from predictors.old r s mv f_code_horiz f_code_vert mv_format picture).predictors }
     ensures vector { vector.new ≡ vector_bytes (vector_from predictors.old r s mv f_code_horiz f_code_vert mv_format picture).answer vector.old }
@@ -220,7 +212,8 @@ fn vector_in_bytes(
         picture,
     );
     replace_pair(decoded.predictors, r, s, predictors);
-    store_vector(decoded.answer, vector)
+    store_vector(decoded.answer, vector);
+    code_of(decoded.answer)
 }
 
 /// The byte for the outcome: its number, or what was there where the update is refused.
@@ -233,33 +226,24 @@ fn outcome_byte(answer: Result<PmvUpdateOutcome, UpdateRefusal>, before: u8) -> 
     }
 }
 
-/// 0, or the number of the refusal.
-fn update_code(answer: Result<PmvUpdateOutcome, UpdateRefusal>) -> u32
-    ensures { result ≡ refusal_number update_number (result_err answer) }
-{
-    match answer {
-        Ok(_) => 0,
-        Err(refusal) => refusal.into(),
-    }
-}
-
-/// An update, on buffers of the right lengths. Both buffers are written either way, a refusal with what they hold, so that no jump depends on
+/// An update, on its buffers. Both buffers are written either way, a refusal with what they hold, so that no jump depends on
 /// the answer.
-fn update_in_bytes(ctx: PmvUpdateContext, predictors: &mut [u8], outcome: &mut [u8]) -> u32
-    requires { (length predictors.old ≡ 32) × (length outcome.old ≡ 1) }
+#[tactic(auto, using(crate::proofs::Reading::code_is))]
+fn update_in_bytes(ctx: PmvUpdateContext, predictors: &mut [u8; 32], outcome: &mut [u8; 1]) -> u32
     ensures number { result ≡ refusal_number update_number (update_refusal ctx) }
     ensures predictors { predictors.new ≡ unless_number result (predictor_bytes (updated (predictors_of predictors.old) ctx).pmv) predictors.old }
     ensures outcome { outcome.new ≡ unless_number result (outcome_number (update_outcome ctx) ∷ []) outcome.old }
 {
     let update = updated_predictors(load_predictors(predictors), ctx);
-    predictors.copy_from_slice(&predictor_bytes(update.pmv));
+    *predictors = predictor_bytes(update.pmv);
     outcome[0] = outcome_byte(update.answer, outcome[0]);
-    update_code(update.answer)
+    code_of(update.answer)
 }
 
 // ---- the calls
 
 /// A vector's two components against its predictors: 0, or the number of the refusal.
+#[tactic(auto, using(crate::proofs::Updates::unless_predictors, crate::proofs::Updates::unless_components))]
 pub fn fozdrik_reconstruct_motion_vector(
     r: u32,
     s: u32,
@@ -289,6 +273,12 @@ pub fn fozdrik_reconstruct_motion_vector(
         let decoded = vector_from predictors.old (index_of r) (direction_of s) coded f_code_horiz f_code_vert (format_of mv_format) (structure_of picture_structure) in
         vector.new ≡ cond known (vector_bytes decoded.answer vector.old) vector.old }
 {
+    let Some(predictors) = predictors.as_mut_array::<32>() else {
+        return NO_MEANING;
+    };
+    let Some(vector) = vector.as_mut_array::<8>() else {
+        return NO_MEANING;
+    };
     if !vector_known(
         r,
         s,
@@ -296,8 +286,6 @@ pub fn fozdrik_reconstruct_motion_vector(
         motion_residual_vert_present,
         mv_format,
         picture_structure,
-        predictors.len(),
-        vector.len(),
     ) {
         return NO_MEANING;
     }
@@ -323,7 +311,7 @@ pub fn fozdrik_reconstruct_motion_vector(
 }
 
 /// The predictors after a macroblock, and the outcome's number in one byte: 0, or the number of the refusal.
-#[tactic(auto, using(crate::proofs::Updates::update_lengths))]
+#[tactic(auto, using(crate::proofs::Updates::unless_updated, crate::proofs::Updates::unless_outcome))]
 pub fn fozdrik_update_predictors(
     picture_structure: u32,
     prediction_type_present: u32,
@@ -356,6 +344,11 @@ pub fn fozdrik_update_predictors(
     ) {
         return NO_MEANING;
     }
+    // Both lengths are tested above, with the numbers: by these alone, an update took 128 instructions for 116.
+    let (Some(predictors), Some(outcome)) = (predictors.as_mut_array(), outcome.as_mut_array())
+    else {
+        return NO_MEANING;
+    };
     let structure = PictureStructure::try_from(picture_structure);
     update_in_bytes(
         PmvUpdateContext {

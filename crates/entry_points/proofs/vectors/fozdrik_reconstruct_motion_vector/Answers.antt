@@ -1,4 +1,4 @@
--- Where all numbers are known, so are the lengths of both buffers, and each number's reading is its meaning.
+-- Both buffers are arrays of their lengths. Where all numbers are known, each number's reading is its meaning.
 -- Assumes nothing.
 use Rattle.std.proofs.Common.{sym}
 use mir.Facts.{to_z-of_z}
@@ -7,16 +7,14 @@ use Rattle.pmv.specs.declared.kinds.VectorIndex.TheVariants.{First}
 use Rattle.pmv.specs.declared.kinds.Direction.TheVariants.{Forward}
 use Rattle.pmv.specs.declared.kinds.MvFormat.TheVariants as Format
 use Rattle.pmv.specs.declared.kinds.PictureStructure.TheVariants.{TopField}
-use Rattle.entry_points.proofs.Updates.{vector_lengths}
 use Rattle.entry_points.proofs.Reading.{read_value}
 use Rattle.entry_points.proofs.vectors.fozdrik_reconstruct_motion_vector.Goals as goal
-
-pub vector_in_bytes-requires : goal.vector_in_bytes-requires
-vector_in_bytes-requires c = vector_lengths _ _ _ _ _ _ _ _ (sym c.if-not-vector_known.ensures)
 
 pub returns : goal.returns
 returns c =
     let a = c.args in
+    let p = c.in-Some.ensures.cases in
+    let l = c.in-Some-as_mut_array.ensures.cases in
     let known = sym c.if-not-vector_known.ensures in
     let r = read_value (index_from a.r) First c.unwrap_or.ensures c.try_from.ensures in
     let s = read_value (direction_from a.s) Forward c.unwrap_or-2.ensures c.try_from-2.ensures in
@@ -24,9 +22,9 @@ returns c =
     let t = read_value (structure_from a.picture_structure) TopField c.unwrap_or-4.ensures c.try_from-4.ensures in
     let h = to_z-of_z c.ranges.motion_code_horiz in
     let v = to_z-of_z c.ranges.motion_code_vert in
-    let e = rw (r, s, f, t, h, v, c.residual_of.ensures, c.residual_of-2.ensures) at c.vector_in_bytes.ensures in
+    let e = rw (p.same, l.same, r, s, f, t, h, v, c.residual_of.ensures, c.residual_of-2.ensures) at c.vector_in_bytes.ensures in
     record {
-      number = rw known e.number;
-      predictors = rw known e.predictors;
-      vector = rw known e.vector;
+      number = rw (p.long, l.long, known) e.number;
+      predictors = rw (p.long, l.long, known) e.predictors;
+      vector = rw (p.long, l.long, known) e.vector;
     }
