@@ -1,6 +1,6 @@
 -- A signed argument stands in a goal as `to_z w32 (of_z w32 z)`. These laws take that off what calls ensure of lines and places.
 -- Assumes nothing.
-use Rattle.std.proofs.Common.{arith, ap, ◌≡◌, sym, ◌∙◌, Bool, true, ℕ, ◌+◌, ◌≤◌, ◌<◌, ℤ, pos, ◌+ℤ◌}
+use Rattle.std.proofs.Common.{arith, ap, ◌≡◌, sym, ◌∙◌, ℕ, ◌+◌, ◌<◌, ℤ, pos, ◌+ℤ◌}
 use lib.IntN.{+ℤ_assoc}
 use lib.Signed.{mag}
 use mir.Syntax.{w32}
