@@ -8,7 +8,7 @@ ghost use Rattle.forming_predictions.specs.inner.Blocks.{cell_at, block_at};
 use crate::means::avg4;
 use crate::view::{Neighbour, Position, Sides, View, clamp_to};
 
-/// A predicted sample of two rows of the plane, in the columns that k from x on is clamped to.
+/// A predicted sample of two rows of the plane, in the columns that x + k and its neighbour are clamped to.
 #[tactic(auto, using(crate::proofs::Lines::clamp_lt))]
 fn clamped_sample(row: &[u8], below: &[u8], x: Position, k: usize, dx: usize) -> u8
     requires { (0 < length row.now) × (length below.now ≡ length row.now) × (k < 16) × (dx ≤ 1) }

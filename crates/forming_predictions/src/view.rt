@@ -42,6 +42,16 @@ pub(crate) struct Position {
     ghost reach: { Reach at },
 }
 
+impl Position {
+    /// The coordinate n further.
+    pub(crate) fn further(self, n: usize) -> i32
+        requires { n ≤ 17 }
+        ensures { result ≡ self.at +ℤ pos n }
+    {
+        self.at + n as i32
+    }
+}
+
 /// A coordinate, moved into 0..n - 1.
 #[tactic(auto, unfolding(crate::specs::Lines::clamp_to))]
 pub(crate) fn clamp_to(n: usize, v: i32) -> usize
@@ -58,16 +68,6 @@ pub(crate) fn clamp_to(n: usize, v: i32) -> usize
         return 0;
     }
     n - 1
-}
-
-impl Position {
-    /// The coordinate n further.
-    pub(crate) fn further(self, n: usize) -> i32
-        requires { n ≤ 17 }
-        ensures { result ≡ self.at +ℤ pos n }
-    {
-        self.at + n as i32
-    }
 }
 
 impl<'a> View<'a> {

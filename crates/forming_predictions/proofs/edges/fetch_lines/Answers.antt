@@ -16,7 +16,8 @@ loop-r-preserved g c =
     let v = c.args.view in
     let r = c.loop-r.r in
     let row = rw (at_further c.further.type_inv c.further.ensures) at c.clamped_row.ensures in
+    let cells = picked_of (row_at v (clamp_to v.count (c.args.y.at +ℤ pos r))) c.args.columns.now in
     let turn = c.loop-r-test.true in
     rows_step c.loop-r.invariant turn
-    ((rw row at c.pick_samples.ensures) ∙ ap (λ (n : ℕ). tabulate n (picked_of (row_at v (clamp_to v.count (c.args.y.at +ℤ pos r))) c.args.columns.now)) (sym (rows_part c.loop-r.invariant turn)))
+    (◌∙◌ {b = tabulate g.row.N cells} (rw row at c.pick_samples.ensures) (ap (λ (n : ℕ). tabulate n cells) (sym (rows_part c.loop-r.invariant turn))))
     (λ k h. rw (digits_div r h, digits_mod r h) (picked_cells v c.requires.0 _ k (omega (arith, c.requires.1))))
