@@ -44,16 +44,9 @@ fn store_pair(horizontal: i32, vertical: i32, out: &mut [u8])
 fn predictor_bytes(p: Pmv) -> [u8; 32]
     ensures { result ≡ predictor_bytes p }
 {
-    let v = p.values;
+    let words = p.values.map(i32::to_le_bytes);
     let mut bytes = [0; 32];
-    bytes[0..4].copy_from_slice(&v[0].to_le_bytes());
-    bytes[4..8].copy_from_slice(&v[1].to_le_bytes());
-    bytes[8..12].copy_from_slice(&v[2].to_le_bytes());
-    bytes[12..16].copy_from_slice(&v[3].to_le_bytes());
-    bytes[16..20].copy_from_slice(&v[4].to_le_bytes());
-    bytes[20..24].copy_from_slice(&v[5].to_le_bytes());
-    bytes[24..28].copy_from_slice(&v[6].to_le_bytes());
-    bytes[28..32].copy_from_slice(&v[7].to_le_bytes());
+    bytes.copy_from_slice(words.as_flattened());
     bytes
 }
 
