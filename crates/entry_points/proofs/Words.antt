@@ -80,16 +80,6 @@ eight_of (a ∷ b ∷ c ∷ d ∷ e ∷ []) n = absurd (omega arith)
 eight_of (a ∷ b ∷ c ∷ d ∷ e ∷ f ∷ []) n = absurd (omega arith)
 eight_of (a ∷ b ∷ c ∷ d ∷ e ∷ f ∷ g ∷ []) n = absurd (omega arith)
 
--- their bytes
-pub eight_bytes : (l : List ℤ) → length l ≡ 8 → (let at : ℕ → List ℕ = λ i. bytes_of (get_or l i (pos 0)) in
-    at 0 ++ (at 1 ++ (at 2 ++ (at 3 ++ (at 4 ++ (at 5 ++ (at 6 ++ at 7)))))) ≡ numbers_bytes l)
-unfolding bytes_of numbers_bytes
-eight_bytes l n = in_order (eight_of l n)
-  where
-    in_order : {l : List ℤ} → Eight l → (let at : ℕ → List ℕ = λ i. bytes_of (get_or l i (pos 0)) in
-        at 0 ++ (at 1 ++ (at 2 ++ (at 3 ++ (at 4 ++ (at 5 ++ (at 6 ++ at 7)))))) ≡ numbers_bytes l)
-    in_order (eight a b c d e f g h) = refl
-
 -- the bytes of each, one after the other
 pub words_bytes : (l : List ℤ) (ws : List (List ℕ)) → length ws ≡ length l → ((i : ℕ) → i < length l → get_or ws i [] ≡ bytes_of (get_or l i (pos 0))) → flat_map (λ w. w) ws ≡ numbers_bytes l
 unfolding numbers_bytes
