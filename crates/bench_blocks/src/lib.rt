@@ -16,7 +16,7 @@ use forming_predictions::{
     predict_block,
 };
 
-/// 0, or the number of the refusal.
+/// 0, or the number of the refusal. Generic, as in `entry_points`, it would want a lemma beside it, for this one kind.
 fn code_of(answer: Result<(), FormingRefusal>) -> u32
     ensures { result ≡ refusal_number forming_number (result_err answer) }
 {

@@ -18,6 +18,8 @@ fn residual_of(n: u32) -> Option<u8>
     u8::try_from(n).ok()
 }
 
+// One match each: a function for both, over `Into<u32>`, is no shorter, since the numbers of an acceptance differ too.
+
 /// The outcome's number, or 16 and the refusal's.
 fn update_code(answer: Result<PmvUpdateOutcome, UpdateRefusal>) -> u32
     ensures { result ≡ update_code answer }

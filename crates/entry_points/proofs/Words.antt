@@ -2,7 +2,8 @@
 -- Assumes nothing.
 use mathlib.Core.Path.{◌≡◌, refl, sym, ap, ◌∙◌}
 use mathlib.Core.List.{List, [], ◌∷◌, ◌++◌}
-use Prim.Native.Nat.{ℕ, ◌+◌, ◌-◌, ◌*◌, ◌/◌, ◌%◌, ◌<◌}
+use Rattle.std.specs.List.{flat_map}
+use Prim.Native.Nat.{ℕ, suc, ◌+◌, ◌-◌, ◌*◌, ◌/◌, ◌%◌, ◌<◌}
 use native.Mathlib.Nat.{div-add-mod', mod-eq_of_lt}
 use native.Mathlib.Omega.{arith}
 use lib.IntN.{ℤ, pos, negsuc}
@@ -79,12 +80,10 @@ eight_of (a ∷ b ∷ c ∷ d ∷ e ∷ []) n = absurd (omega arith)
 eight_of (a ∷ b ∷ c ∷ d ∷ e ∷ f ∷ []) n = absurd (omega arith)
 eight_of (a ∷ b ∷ c ∷ d ∷ e ∷ f ∷ g ∷ []) n = absurd (omega arith)
 
--- their bytes
-pub eight_bytes : (l : List ℤ) → length l ≡ 8 → (let at : ℕ → List ℕ = λ i. bytes_of (get_or l i (pos 0)) in
-    at 0 ++ (at 1 ++ (at 2 ++ (at 3 ++ (at 4 ++ (at 5 ++ (at 6 ++ at 7)))))) ≡ numbers_bytes l)
-unfolding bytes_of numbers_bytes
-eight_bytes l n = in_order (eight_of l n)
-  where
-    in_order : {l : List ℤ} → Eight l → (let at : ℕ → List ℕ = λ i. bytes_of (get_or l i (pos 0)) in
-        at 0 ++ (at 1 ++ (at 2 ++ (at 3 ++ (at 4 ++ (at 5 ++ (at 6 ++ at 7)))))) ≡ numbers_bytes l)
-    in_order (eight a b c d e f g h) = refl
+-- the bytes of each, one after the other
+pub words_bytes : (l : List ℤ) (ws : List (List ℕ)) → length ws ≡ length l → ((i : ℕ) → i < length l → get_or ws i [] ≡ bytes_of (get_or l i (pos 0))) → flat_map (λ w. w) ws ≡ numbers_bytes l
+unfolding numbers_bytes
+words_bytes [] [] n f = refl
+words_bytes (z ∷ l) (w ∷ ws) n f = λ i. f 0 (omega arith) i ++ words_bytes l ws (omega arith) (λ k b. f (suc k) (omega arith)) i
+words_bytes [] (w ∷ ws) n f = absurd (omega arith)
+words_bytes (z ∷ l) [] n f = absurd (omega arith)
