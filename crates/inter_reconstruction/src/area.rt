@@ -7,7 +7,8 @@ use crate::frames::chroma_mb_extent;
 use forming_predictions::BlockSize;
 use pmv::kinds::ChromaFormat;
 
-/// The place of a macroblock among those of a picture: its column and its row are 0 to 1,023.
+/// The place of a macroblock among those of a picture: its column and its row are 0 to 1,023. Until that is tested they are two numbers, as
+/// the calls take them.
 #[derive(Clone, Copy)]
 pub(crate) struct Cell {
     pub(crate) mb_col: usize,

@@ -3,6 +3,7 @@
 //!
 //! That a plane is readable, and how long an output is, stands in each contract: a plane or a frame of another type, with what was tested of
 //! it, would be a copy, and copied a macroblock of two directions took 2 to 5 % more instructions; an output is a part of a longer one.
+//! That a block has both fields' rows (`FieldRows`) is asked for where they may be interleaved: a field's own block has any.
 ghost use Rattle.std.specs.Prelude.{◌≡◌, ◌+◌, ◌*◌, ◌%◌, ◌≤◌, ◌<◌, length};
 ghost use Rattle.laws.specs.Tabulate.{tabulate};
 ghost use Rattle.forming_predictions.specs.Means.{rounded};

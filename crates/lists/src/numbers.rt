@@ -58,7 +58,8 @@ impl Cursor<'_> {
         Ok(())
     }
 
-    /// Reads whether something of so many fields follows: 1, or 0 and a 0 in place of each.
+    /// Reads whether something of so many fields follows: 1, or 0 and a 0 in place of each. What follows is the caller's to read: taken as a
+    /// closure it would be asked for in a `requires`, and each call would be longer than the `if`.
     pub fn present(&mut self, fields: usize) -> Result<bool, Unread>
         ensures present { MatchResult result (PresentAt self.old.text.now self.old.at fields) (λ e. e ≡ Malformed) }
         ensures moved { IfOk result (λ b. MovesTo self.old self.new (present_end self.old.text.now self.old.at fields b)) }

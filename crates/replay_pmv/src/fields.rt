@@ -12,7 +12,7 @@ pub(crate) const NO_COMPONENT: ReconstructedComponent = ReconstructedComponent {
     range: 0,
 };
 
-/// The kind that a number of the list means.
+/// The kind that a number of the list means. Beside `Cursor::kind`, since four callers compare the number too.
 pub(crate) fn kind<K: TryFrom<u32>>(number: u32) -> Result<K, Unread>
 where
     K::Error: Drop,
