@@ -3,7 +3,7 @@
 use mathlib.Core.Path.{◌≡◌, refl, sym, ap, ◌∙◌}
 use Rattle.std.specs.Prelude.{Option, Some, None, Result, Ok, Err}
 use Rattle.std.specs.Result.{result_ok, result_err}
-use Rattle.combine_predictions.specs.Refusals.{answered, value_unless}
+use Rattle.combine_predictions.specs.Refusals.{answered, value_unless, unless_refused}
 
 answered_err : {R A : Type 0} (n : Option R) (v : A) → result_err (answered n v) ≡ n
 answered_err None v = refl
@@ -19,6 +19,11 @@ refusal_of n v e = ap result_err e ∙ answered_err n v
 
 pub value_of : {R A : Type 0} {a : Result A R} (n : Option R) (v : A) → a ≡ answered n v → result_ok a ≡ value_unless (result_err a) v
 value_of {R} n v e = ap result_ok e ∙ answered_ok n v ∙ ap (λ (m : Option R). value_unless m v) (sym (refusal_of n v e))
+
+-- a buffer that was written by the refusal is written by the answer
+pub by_answer : {R A B : Type 0} {a : Result A R} (n : Option R) (v : A) (o new old : B)
+    → a ≡ answered n v → o ≡ unless_refused n new old → o ≡ unless_refused (result_err a) new old
+by_answer n v o new old e w = rw (refusal_of n v e) w
 
 -- what an answer's case says of the refusal
 pub is_refused : {R A : Type 0} (n : Option R) (v : A) {r : R} → Err r ≡ answered n v → n ≡ Some r

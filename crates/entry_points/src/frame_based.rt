@@ -1,4 +1,5 @@
-//! The C call for a macroblock that is predicted by one vector in each direction.
+//! The C call for a macroblock that is predicted by one vector in each direction. The C interface has it beside the field-based call, which
+//! takes other numbers.
 ghost use Rattle.std.specs.Prelude.{◌≡◌, length, is_some};
 ghost use Rattle.forming_predictions.specs.Means.{rounded};
 ghost use Rattle.inter_reconstruction.specs.Motion.{frame_uses};

@@ -260,7 +260,8 @@ impl<'a> ReferencePlane<'a> {
 }
 
 impl<'a> FieldReference<'a> {
-    /// The sample of the field at (x, y): y is clamped to the field's lines, x to the plane.
+    /// The sample of the field at (x, y): y is clamped to the field's lines, x to the plane. It is a method beside the plane's, since
+    /// docs/SCOPE.md asks for both.
     pub fn sample(self, x: i32, y: i32) -> Result<u8, FormingRefusal>
         ensures answer { result ≡ answered (plane_refused self.entry.plane) (read_at (field self.entry.parity) self.entry.plane x y) }
         ensures refusal { result_err result ≡ plane_refused self.entry.plane }

@@ -154,7 +154,8 @@ fn check_placing(
 
 /// Writes a macroblock's bytes, luminance, then Cb, then Cr, to the cell of a picture's planes in column `mb_col` and row `mb_row` of its
 /// macroblocks. Nothing is written by a refusal: of a side over 16,384 or a plane with another number of samples than its sides say (14), of an
-/// ill-formed picture or a cell outside it (20), of another number of bytes than a macroblock has (18).
+/// ill-formed picture or a cell outside it (20), of another number of bytes than a macroblock has (18). The picture's sides and its three
+/// planes are four parameters, since the planes are lent to be written.
 pub fn place_macroblock(
     picture: FrameSides,
     mb_col: usize,
