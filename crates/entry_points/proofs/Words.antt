@@ -7,7 +7,7 @@ use Prim.Native.Nat.{ℕ, suc, ◌+◌, ◌-◌, ◌*◌, ◌/◌, ◌%◌, ◌<
 use native.Mathlib.Nat.{div-add-mod', mod-eq_of_lt}
 use native.Mathlib.Omega.{arith}
 use lib.IntN.{ℤ, pos, negsuc}
-use lib.ListN.{length, get_or, take, drop}
+use lib.ListN.{length, get_or, set, take, drop}
 use lib.Seq.{drop-drop}
 use lib.Pow.{shr-shr}
 use mir.Syntax.{w32}
@@ -46,6 +46,15 @@ word_back n h =
     let t : n / 16777216 < 256 = omega arith in
     let q4 = mod-eq_of_lt t in
     omega arith
+
+-- four stores into four bytes
+pub four_set : (l : List ℕ) (a b c d : ℕ) → length l ≡ 4 → set (set (set (set l 0 a) 1 b) 2 c) 3 d ≡ a ∷ b ∷ c ∷ d ∷ []
+four_set [] a b c d e = absurd (omega arith)
+four_set (x ∷ []) a b c d e = absurd (omega arith)
+four_set (x ∷ y ∷ []) a b c d e = absurd (omega arith)
+four_set (x ∷ y ∷ z ∷ []) a b c d e = absurd (omega arith)
+four_set (x ∷ y ∷ z ∷ w ∷ []) a b c d e = refl
+four_set (x ∷ y ∷ z ∷ w ∷ v ∷ l) a b c d e = absurd (omega arith)
 
 -- ---- the two predictors of a vector
 pub pair_at : (l : List ℕ) (r : VectorIndex) (s : Direction) (k : ℕ) (h v : ℤ)

@@ -1,23 +1,25 @@
 -- Laws of blocks, and of their rows.
 -- Assumes nothing.
-use mathlib.Core.Path.{◌≡◌, sym, ap, ◌∙◌}
+use mathlib.Core.Path.{◌≡◌, refl, sym, ap, ◌∙◌}
+use mathlib.Core.Bool.{true}
 use mathlib.Core.List.{List}
 use Prim.Native.Nat.{ℕ, ◌+◌, ◌-◌, ◌*◌, ◌/◌, ◌%◌, ◌≤◌, ◌<◌}
 use native.Mathlib.Nat.{zero-add, add_assoc, one-mul, mul_comm, mul_assoc, mul-add, add-mul, mod-lt, div-lt_iff_lt-mul}
 use native.Mathlib.Omega.{arith}
 use lib.Arith.{digits_lt, digits_div, digits_mod}
-use lib.IntN.{ℤ, pos, ◌+ℤ◌, +ℤ_assoc}
+use lib.IntN.{ℤ, pos, negsuc, ◌+ℤ◌, +ℤ_assoc}
 use lib.ListN.{length, get_or, take, drop}
 use lib.Seq.{length-take-le}
+use borrow.Author.Tests.{leb-true}
 use Rattle.laws.specs.Tabulate.{tabulate}
-use Rattle.laws.proofs.Signed.{eq_z, add_z}
+use Rattle.laws.proofs.Signed.{zp, zn, eq_z, add_z}
 use Rattle.laws.proofs.Rows.{row_in}
 use Rattle.laws.proofs.Tabulated.{tab_ext, length_tab, get_or_tab}
 use Rattle.laws.proofs.Parts.{part_length, part_at}
 use Rattle.forming_predictions.specs.Lines.{clamp_to}
 use Rattle.forming_predictions.specs.Means.{mean4}
 use Rattle.forming_predictions.specs.Forming.{block_of}
-use Rattle.forming_predictions.specs.inner.Views.{line_start, view_read, spread, four_of, clamped_of, line_cell, picked, column_at, ViewFits, SidesFit, Inside, ColumnsFit}
+use Rattle.forming_predictions.specs.inner.Views.{line_start, view_read, spread, two_of, four_of, clamped_of, line_cell, picked, column_at, inside_of, ViewFits, SidesFit, Inside, ColumnsFit}
 use Rattle.forming_predictions.proofs.Lines.{clamp_in, clamp_lt}
 use Rattle.forming_predictions.proofs.RowMeans.{mean4_same}
 
@@ -236,3 +238,20 @@ plain_block read x y bw bh = block_ext bw bh _ _ x y (λ a b. sym (spread_none r
 -- ---- the front of a local array: room for the samples that a block reads
 pub front : (l : List ℕ) (n : ℕ) → n ≤ length l → length (take (n - 0) l) ≡ n
 front l n h = length-take-le (n - 0) l (omega arith) ∙ omega arith
+
+-- ---- rows that are handed on
+-- two rows that lie in the samples, handed on as parts, and what their samples are
+module _ (s : List ℕ) (w a b : ℕ) (p : a + w ≤ length s) (q : b + w ≤ length s) where
+  pub parts_two : (x dx gap c : ℕ) → b ≡ a + gap → x + dx + c < w
+      → two_of (take (a + w - a) (drop a s)) (take (b + w - b) (drop b s)) x dx c ≡ two_of s s (a + x) (gap + dx) c
+  unfolding two_of
+  parts_two x dx gap c e h =
+      let one : a + x + c ≡ a + (x + c) = omega arith in
+      let two : a + x + (gap + dx) + c ≡ b + (x + dx + c) = omega arith in
+      rw (one, two, part_at s a (a + w) (x + c) (omega arith), part_at s b (b + w) (x + dx + c) (omega arith))
+
+-- ---- the test that nothing is outside
+pub inside_yes : (z : ℤ) (n limit : ℕ) → inside_of z n limit ≡ true → (zn z ≡ 0) × (zp z + n ≤ limit)
+unfolding inside_of
+inside_yes (pos a) n limit e = (refl, leb-true (a + n) limit e)
+inside_yes (negsuc a) n limit e = let z : ◌≡◌ {A = ℕ} 0 1 = cc in absurd (omega arith)

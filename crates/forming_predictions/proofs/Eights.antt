@@ -1,15 +1,39 @@
 -- Laws of rows that are written eight by eight.
 -- Assumes nothing.
 use mathlib.Core.Path.{◌≡◌, sym, ap, ◌∙◌}
+use mathlib.Core.Logic.{◌⊎◌, inl, inr}
+use mathlib.Core.Bool.{true, ◌||◌}
 use mathlib.Core.List.{List}
 use Prim.Native.Nat.{ℕ, ◌+◌, ◌-◌, ◌≤◌, ◌<◌}
 use native.Mathlib.Nat.{zero-add}
 use native.Mathlib.Omega.{arith}
-use lib.ListN.{length}
+use lib.Dec.{eqb}
+use lib.ListN.{length, take, drop}
+use borrow.Author.Tests.{eqb-true}
 use borrow.Rule.Slice.PartMut.{put_mid}
 use Rattle.laws.specs.Tabulate.{tabulate}
+use Rattle.laws.proofs.Parts.{part_length, part_at}
+use Rattle.laws.proofs.Tests.{either}
 use Rattle.laws.proofs.Filled.{Filled, filled_none, filled_length, filled_part, filled_again, filled_all}
-use Rattle.forming_predictions.specs.inner.Views.{four_of}
+use Rattle.forming_predictions.specs.inner.Views.{four_of, Eights, ColumnsFit}
+
+-- what the test of a width says
+eights_of : (n : ℕ) → (eqb n 8 ≡ true) ⊎ (eqb n 16 ≡ true) → Eights n
+eights_of n (inl p) =
+    let e = eqb-true n 8 p in
+    record { some = omega arith; wide = omega arith; even = omega arith }
+eights_of n (inr p) =
+    let e = eqb-true n 16 p in
+    record { some = omega arith; wide = omega arith; even = omega arith }
+
+pub eights_yes : (n : ℕ) → (eqb n 8 || eqb n 16) ≡ true → Eights n
+eights_yes n e = eights_of n (either (eqb n 8) (eqb n 16) e)
+
+-- eight of a block's columns
+pub part_columns : {columns : List ℕ} {w : ℕ} (a : ℕ) → ColumnsFit columns w → a + 8 ≤ length columns → ColumnsFit (take (a + 8 - a) (drop a columns)) w
+part_columns {columns} {w} a f h =
+    let long : length (take (a + 8 - a) (drop a columns)) ≡ 8 = part_length columns a (a + 8) h ∙ omega arith in
+    record { inside = λ k l. rw (part_at columns a (a + 8) k (omega arith)) (f.inside (a + k) (omega arith)) }
 
 -- the first eight of a buffer, and the next eight
 pub eight : {f g : ℕ → ℕ} {d ys : List ℕ} → 8 ≤ length d → ys ≡ tabulate 8 g → ((i : ℕ) → i < 8 → g i ≡ f i) → Filled f d 8 (put_mid 0 8 d ys)

@@ -1,12 +1,13 @@
 -- A signed argument stands in a goal as `to_z w32 (of_z w32 z)`. These laws take that off what calls ensure of lines and places.
 -- Assumes nothing.
-use Rattle.std.proofs.Common.{arith, ap, ◌≡◌, sym, ◌∙◌, ℕ, ◌+◌, ◌<◌, ℤ, pos, ◌+ℤ◌}
+use Rattle.std.proofs.Common.{arith, ap, ◌≡◌, sym, ◌∙◌, Bool, true, ℕ, ◌+◌, ◌≤◌, ◌<◌, ℤ, pos, ◌+ℤ◌}
 use lib.IntN.{+ℤ_assoc}
 use lib.Signed.{mag}
 use mir.Syntax.{w32}
 use mir.Val.{SFits, of_z, to_z}
 use mir.Facts.{to_z-of_z}
 use Rattle.laws.proofs.Bits.{back}
+use Rattle.laws.proofs.Signed.{zp, zn}
 use Rattle.std.specs.Prelude.{None, Result, Ok}
 use Rattle.combine_predictions.specs.Refusals.{answered}
 use Rattle.combine_predictions.proofs.Answers.{is_accepted}
@@ -15,8 +16,9 @@ use Rattle.forming_predictions.specs.declared.ReferencePlane.{ReferencePlane}
 use Rattle.forming_predictions.specs.Splitting.{floor_half, half_flag}
 use Rattle.forming_predictions.specs.Lines.{clamp_to}
 use Rattle.forming_predictions.specs.Planes.{count_of, sample_refused, block_refused}
-use Rattle.forming_predictions.specs.inner.Views.{bit_of}
+use Rattle.forming_predictions.specs.inner.Views.{bit_of, inside_of}
 use Rattle.forming_predictions.proofs.Lines.{clamp_lt}
+use Rattle.forming_predictions.proofs.Blocks.{inside_yes}
 use Rattle.forming_predictions.proofs.Refusals.{BlockRight, block_right}
 
 -- a clamped coordinate
@@ -40,6 +42,10 @@ at_moved f g e = rw (to_z-of_z f, to_z-of_z g) at e
 
 pub at_half : {b : ℕ} {v : ℤ} → SFits w32 v → b ≡ bit_of (half_flag (to_z w32 (of_z w32 v))) → b ≡ bit_of (half_flag v)
 at_half f e = rw (to_z-of_z f) at e
+
+-- what a test that a block lies inside says of a position
+pub inside_at : (n limit : ℕ) {b : Bool} {z : ℤ} → SFits w32 z → b ≡ inside_of (to_z w32 (of_z w32 z)) n limit → b ≡ true → (zn z ≡ 0) × (zp z + n ≤ limit)
+inside_at n limit {z = z} f e t = inside_yes z n limit (sym (rw (to_z-of_z f) at e) ∙ t)
 
 -- ---- what the tests of a call say, where they refuse nothing
 module _ {p q : ReferencePlane} (e : p ≡ q) where

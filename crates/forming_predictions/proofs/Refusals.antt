@@ -134,6 +134,23 @@ unfolding block_refusal
 block_cause w h n x y bw bh o =
     domain_then (plane_fits w h n) (block_side_fits bw && block_side_fits bh) (position_fits last_block x && position_fits last_block y) OutsideDomain (cause (not (eqb o (bw * bh))) WrongLength)
 
+one_cause : {R : Type 0} (a b : Bool) (r : R) → cause (not (a && b)) r ≡ or_else (cause (not a) r) (cause (not b) r)
+one_cause true b r = refl
+one_cause false b r = refl
+
+pub sample_cause : (w h n : ℕ) (x y : ℤ)
+    → cause (not (plane_fits w h n && (position_fits last_sample x && position_fits last_sample y))) OutsideDomain ≡ sample_refusal w h n x y
+unfolding sample_refusal
+sample_cause w h n x y = one_cause (plane_fits w h n) (position_fits last_sample x && position_fits last_sample y) OutsideDomain
+
+-- the sides of a block that fits
+pub sides_fit : (p r : Bool) (bw bh : ℕ) → cause (not (p && ((block_side_fits bw && block_side_fits bh) && r))) OutsideDomain ≡ None → (bw ≤ 16) × (bh ≤ 16)
+sides_fit p r bw bh e =
+    let a = both p ((block_side_fits bw && block_side_fits bh) && r) (no_cause (p && ((block_side_fits bw && block_side_fits bh) && r)) OutsideDomain e) in
+    let b = both (block_side_fits bw && block_side_fits bh) r a.1 in
+    let c = both (block_side_fits bw) (block_side_fits bh) b.0 in
+    ((side_range bw c.0).1, (side_range bh c.1).1)
+
 -- ---- a block: when each number is given
 module _ (w h n : ℕ) (x y : ℤ) (bw bh o : ℕ) where
   abbrev in_domain : Bool

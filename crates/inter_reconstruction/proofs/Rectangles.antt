@@ -19,6 +19,8 @@ use Rattle.std.specs.Result.{result_err}
 use Rattle.combine_predictions.specs.Refusals.{answered, unless_refused}
 use Rattle.combine_predictions.specs.Averaging.{mean2, averaged, average_answer}
 use Rattle.combine_predictions.specs.declared.AveragingRefusal.{AveragingRefusal}
+use Rattle.combine_predictions.specs.declared.PredictionDirection.{PredictionDirection}
+use Rattle.combine_predictions.specs.declared.PredictionDirection.TheVariants.{Forward, Backward, Skipped}
 use Rattle.forming_predictions.specs.Lines.{frame, field, sample_at}
 use Rattle.forming_predictions.specs.Means.{rounded}
 use Rattle.forming_predictions.specs.Forming.{block_of, predicted_block}
@@ -33,7 +35,7 @@ use Rattle.inter_reconstruction.specs.declared.motion.FieldVectorPair.{FieldVect
 use Rattle.inter_reconstruction.specs.Motion.{field_vector_of}
 use Rattle.inter_reconstruction.specs.Frames.{PlaneReading, read_plane}
 use Rattle.inter_reconstruction.specs.Macroblock.{field_sample, direction_sample, rectangle}
-use Rattle.inter_reconstruction.specs.inner.Blocks.{PlaneFits, AreaFits, FieldRows, field_row, interleaved_cell, field_halves}
+use Rattle.inter_reconstruction.specs.inner.Blocks.{PlaneFits, AreaFits, FieldRows, field_row, interleaved_cell, field_halves, forward_bytes}
 
 -- its length
 pub rectangle_length : (w h : ℕ) (rule : ℕ → ℕ → ℕ) (x y : ℕ) → length (rectangle w h rule x y) ≡ w * h
@@ -177,3 +179,9 @@ averaged_is w h f g x y a b o old r ea eb eo er e =
     e
     ∙ rw (er, la, lb, eo, eq-eqb (w * h) (w * h) refl, ea, eb)
     (tab_ext (w * h) _ _ (λ k q. rw (at f k q, at g k q)))
+
+-- ---- the direction that there is
+pub forward_most : (d : PredictionDirection) (n : ℕ) → forward_bytes d n ≤ n
+forward_most Forward n = omega arith
+forward_most Backward n = omega arith
+forward_most Skipped n = omega arith

@@ -2,7 +2,10 @@
 use entry_points::vectors::{fozdrik_reconstruct_motion_vector, fozdrik_update_predictors};
 use lists::{Cursor, Unread};
 use std::alloc::Global;
-use tally::{LONGEST, Lent};
+use tally::Lent;
+
+/// No buffer of a list has more bytes on these lines.
+const MOST: usize = 64;
 
 /// A part of a vector as the stream has it.
 #[derive(Clone, Copy)]
@@ -34,8 +37,11 @@ fn compared<C: FnOnce(&mut [u8], &mut [u8]) -> u32>(
     let mut taken = Lent::filled(alloc, case)?;
     let answer = case.number::<u32>()?;
     let mut predictors = Lent::holding(alloc, case)?;
-    let predictors_after = case.bytes(alloc, LONGEST)?;
-    let taken_after = case.bytes(alloc, LONGEST)?;
+    let predictors_after = case.bytes(alloc, MOST)?;
+    let taken_after = case.bytes(alloc, MOST)?;
+    if predictors.lent().len() > MOST || taken.lent().len() > MOST {
+        return Err(Unread::Malformed);
+    }
     let given = call(predictors.lent(), taken.lent());
     Ok(
         given == answer

@@ -37,7 +37,7 @@ pub(crate) fn macroblock(alloc: Global, case: &mut Cursor<'_>) -> Result<bool, U
         case.number::<u64>()?,
         case.number::<u64>()?,
     ];
-    if count > LONGEST {
+    if answer < 0 || count > LONGEST {
         return Err(Unread::Malformed);
     }
     let bytes = draws.bytes(alloc, count)?;

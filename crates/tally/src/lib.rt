@@ -64,7 +64,7 @@ impl Tally {
 }
 
 /// The same as `case`. A case that does not agree is named, with its line, if it is among the first eight.
-fn judge(rt: &impl Print, tally: &mut Tally, agrees: bool) -> io::Result<()>
+pub fn judge(rt: &impl Print, tally: &mut Tally, agrees: bool) -> io::Result<()>
     ensures { tally.new ≡ after_case tally.old agrees }
 {
     let named = !agrees && tally.cases.wrapping_sub(tally.agree) < 8;
