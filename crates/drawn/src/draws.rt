@@ -50,9 +50,12 @@ impl Draws {
         ensures bytes { bytes.new ≡ drawn self.old.last (length bytes.old) }
         ensures last { self.new.last ≡ number_after self.old.last (length bytes.old) }
     {
+        // A copy: a byte that is stored might change a number in memory, so that this was stored and loaded for each byte, in twice the time.
+        let mut draws = *self;
         for byte in bytes.iter_mut() {
-            *byte = self.byte();
+            *byte = draws.byte();
         }
+        *self = draws;
     }
 
     /// The next bytes.

@@ -8,6 +8,6 @@ use Rattle.drawn.proofs.draws.Draws.fill.Given as goal
 abbrev pub invariant-loop-byte : goal.invariant-loop-byte
 invariant-loop-byte l =
     record {
-      filled : Filled (draw l.initial.self.last) l.initial.bytes l.byte-index l.bytes;
-      last : l.self.last ≡ number_after l.initial.self.last l.byte-index;
+      filled : Filled (draw l.initial.draws.last) l.initial.bytes l.byte-index l.bytes;
+      last : l.draws.last ≡ number_after l.initial.draws.last l.byte-index;
     }
