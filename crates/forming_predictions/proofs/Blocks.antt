@@ -2,7 +2,7 @@
 -- Assumes nothing.
 use mathlib.Core.Path.{◌≡◌, refl, sym, ap, ◌∙◌}
 use mathlib.Core.Bool.{true}
-use mathlib.Core.List.{List}
+use mathlib.Core.List.{List, [], ◌∷◌}
 use Prim.Native.Nat.{ℕ, ◌+◌, ◌-◌, ◌*◌, ◌/◌, ◌%◌, ◌≤◌, ◌<◌}
 use native.Mathlib.Nat.{zero-add, add_assoc, one-mul, mul_comm, mul_assoc, mul-add, add-mul, mod-lt, div-lt_iff_lt-mul}
 use native.Mathlib.Omega.{arith}
@@ -255,3 +255,26 @@ pub inside_yes : (z : ℤ) (n limit : ℕ) → inside_of z n limit ≡ true → 
 unfolding inside_of
 inside_yes (pos a) n limit e = (refl, leb-true (a + n) limit e)
 inside_yes (negsuc a) n limit e = let z : ◌≡◌ {A = ℕ} 0 1 = cc in absurd (omega arith)
+
+-- ---- a plane without samples is read as a single 0
+nothing : (s : List ℕ) (k : ℕ) → length s ≡ 0 → get_or s k 0 ≡ 0
+nothing [] k e = refl
+nothing (a ∷ s) k e = absurd (omega arith)
+
+pub empty_read : (s : List ℕ) (w first step count : ℕ) (x y : ℤ) → length s ≡ 0 → view_read s w first step count x y ≡ 0
+unfolding view_read
+empty_read s w first step count x y e = nothing s _ e
+
+zero_read : (x y : ℤ) → view_read (0 ∷ []) 1 0 1 1 x y ≡ 0
+unfolding view_read
+zero_read x y =
+    let line : line_start 0 1 1 (clamp_to 1 y) + clamp_to 1 x ≡ 0 = omega (arith, clamp_lt 1 x (omega arith), clamp_lt 1 y (omega arith)) in
+    rw line
+
+pub empty_block : (s : List ℕ) (w first step count : ℕ) (x y : ℤ) (dx dy bw bh : ℕ) → length s ≡ 0
+    → block_of bw bh (λ (a b : ℤ). spread (view_read (0 ∷ []) 1 0 1 1) a b dx dy) x y
+    ≡ block_of bw bh (λ (a b : ℤ). spread (view_read s w first step count) a b dx dy) x y
+empty_block s w first step count x y dx dy bw bh e =
+    let same : (a b : ℤ) → view_read (0 ∷ []) 1 0 1 1 a b ≡ view_read s w first step count a b =
+    λ a b. zero_read a b ∙ sym (empty_read s w first step count a b e) in
+    block_ext bw bh _ _ x y (λ a b. spread_cong _ _ a b a b dx dy (same _ _) (same _ _) (same _ _) (same _ _))
