@@ -50,7 +50,7 @@ impl Draws {
         ensures bytes { bytes.new ≡ drawn self.old.last (length bytes.old) }
         ensures last { self.new.last ≡ number_after self.old.last (length bytes.old) }
     {
-        // A copy: a byte that is stored might change a number in memory, so that this was stored and loaded for each byte, in twice the time.
+        // A copy, which the compiler keeps in a register: `self` it would store and load for each byte, in 1.8 times the time.
         let mut draws = *self;
         for byte in bytes.iter_mut() {
             *byte = draws.byte();

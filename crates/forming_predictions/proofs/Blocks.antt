@@ -4,7 +4,7 @@ use mathlib.Core.Path.{◌≡◌, refl, sym, ap, ◌∙◌}
 use mathlib.Core.Bool.{true}
 use mathlib.Core.List.{List, [], ◌∷◌}
 use Prim.Native.Nat.{ℕ, ◌+◌, ◌-◌, ◌*◌, ◌/◌, ◌%◌, ◌≤◌, ◌<◌}
-use native.Mathlib.Nat.{zero-add, add_assoc, one-mul, mul_comm, mul_assoc, mul-add, add-mul, mod-lt, div-lt_iff_lt-mul}
+use native.Mathlib.Nat.{zero-add, zero-mul, add_assoc, one-mul, mul_comm, mul_assoc, mul-add, add-mul, mod-lt, div-lt_iff_lt-mul}
 use native.Mathlib.Omega.{arith}
 use lib.Arith.{digits_lt, digits_div, digits_mod}
 use lib.IntN.{ℤ, pos, negsuc, ◌+ℤ◌, +ℤ_assoc}
@@ -21,7 +21,8 @@ use Rattle.forming_predictions.specs.Means.{mean4}
 use Rattle.forming_predictions.specs.Forming.{block_of}
 use Rattle.forming_predictions.specs.inner.Views.{line_start, view_read, spread, two_of, four_of, clamped_of, line_cell, picked, column_at, inside_of, ViewFits, SidesFit, Inside, ColumnsFit}
 use Rattle.forming_predictions.proofs.Lines.{clamp_in, clamp_lt}
-use Rattle.forming_predictions.proofs.RowMeans.{mean4_same}
+use Rattle.forming_predictions.proofs.RowMeans.{mean4_same, two_is_four}
+use Rattle.forming_predictions.proofs.Views.{empty_read}
 
 -- sample c of row r
 pub row_of_block : (rule : ℤ → ℤ → ℕ) (x y : ℤ) (w r c : ℕ) → c < w
@@ -57,6 +58,12 @@ module _ {s : List ℕ} {w first step count x y dx dy n : ℕ} (f : ViewFits s w
   abbrev below : ℕ
   below = line_start first step w (y + dy)
 
+  pub same_rows : {a b : ℕ} → a ≡ here → b ≡ below → dy ≡ 0 → take (b + w - b) (drop b s) ≡ take (a + w - a) (drop a s)
+  same_rows {a} {b} p q e =
+      let same : y + dy ≡ y = omega arith in
+      let t : b ≡ a = q ∙ ap (line_start first step w) same ∙ sym p in
+      ap (λ (j : ℕ). take (j + w - j) (drop j s)) t
+
   pub line_cells : {a b : ℕ} → a ≡ here → b ≡ below → (k : ℕ) → k < n
       → four_of (take (a + w - a) (drop a s)) (take (b + w - b) (drop b s)) x dx k ≡ line_cell s w first step count (pos x) (pos y) dx dy k
   unfolding four_of line_cell spread view_read
@@ -80,6 +87,47 @@ module _ {s : List ℕ} {w first step count x y dx dy n : ℕ} (f : ViewFits s w
 pub line_further : (first step w y r : ℕ) → line_start first step w (y + r) ≡ line_start first step w y + r * (step * w)
 line_further first step w y r =
     rw (mul-add step y r, ← add_assoc first (step * y) (step * r), add-mul (first + step * y) (step * r) w, mul_comm step r, mul_assoc r step w)
+
+-- ---- a block of 8 × 8 by the places of its rows
+pub no_gap : (dx dy stride : ℕ) → dx + dy ≡ 0 → 0 ≡ dy * stride
+no_gap dx dy stride e = let z : dy ≡ 0 = omega arith in rw z (omega (arith, zero-mul stride))
+
+-- the row below starts `gap` places further, and the right neighbour is `side` columns further
+module _ {s : List ℕ} {w first step count x y dx dy gap side : ℕ} (f : ViewFits s w first step count) (i : Inside w count x y dx dy 8 8)
+    (e : gap ≡ dy * (step * w)) (d : side ≡ dx) where
+  pub square_room : line_start first step w y + 7 * (step * w) + gap + w ≤ length s
+  square_room =
+      omega (
+        arith,
+        f.room (y + (dy + 7)) (omega (arith, i.below)),
+        line_further first step w y (dy + 7),
+        add-mul dy 7 (step * w),
+      )
+
+  square_cell : dx + dy ≤ 1 → (r c : ℕ) → r < 8 → c < 8
+      → two_of s s (line_start first step w y + r * (step * w) + x) (gap + side) c ≡ line_cell s w first step count (pos x) (pos (y + r)) dx dy c
+  unfolding two_of
+  square_cell n r c p q =
+      let here = line_start first step w (y + r) in
+      let below = line_start first step w (y + r + dy) in
+      let line : Inside w count x (y + r) dx dy 8 1 = record { right = i.right; below = omega (arith, i.below) } in
+      let one : line_start first step w y + r * (step * w) + x + c ≡ here + (x + c) = omega (arith, line_further first step w y r) in
+      let two : line_start first step w y + r * (step * w) + x + (gap + side) + c ≡ below + (x + dx + c) =
+      omega (arith, line_further first step w y r, line_further first step w (y + r) dy) in
+      rw (
+        one,
+        two,
+        ← part_at s here (here + w) (x + c) (omega (arith, i.right)),
+        ← part_at s below (below + w) (x + dx + c) (omega (arith, i.right)),
+      )
+      (two_is_four _ _ x dx dy c (omega arith) (omega arith) (λ b. omega arith) (same_rows f line refl refl) ∙ line_cells f line refl refl c q)
+
+  pub square_block : dx + dy ≤ 1
+      → tabulate 64 (λ (k : ℕ). two_of s s (line_start first step w y + k / 8 * (step * w) + x) (gap + side) (k % 8))
+      ≡ block_of 8 8 (λ (a b : ℤ). spread (view_read s w first step count) a b dx dy) (pos x) (pos y)
+  unfolding block_of line_cell
+  square_block n =
+      tab_ext 64 _ _ (λ k p. square_cell n (k / 8) (k % 8) (omega arith) (mod-lt k (omega arith)))
 
 -- ---- lines that are clamped
 module _ {s : List ℕ} {w first step count : ℕ} (f : ViewFits s w first step count) (y : ℤ) {a : ℕ} (p : a ≡ line_start first step w (clamp_to count y))
@@ -257,14 +305,6 @@ inside_yes (pos a) n limit e = (refl, leb-true (a + n) limit e)
 inside_yes (negsuc a) n limit e = let z : ◌≡◌ {A = ℕ} 0 1 = cc in absurd (omega arith)
 
 -- ---- a plane without samples is read as a single 0
-nothing : (s : List ℕ) (k : ℕ) → length s ≡ 0 → get_or s k 0 ≡ 0
-nothing [] k e = refl
-nothing (a ∷ s) k e = absurd (omega arith)
-
-pub empty_read : (s : List ℕ) (w first step count : ℕ) (x y : ℤ) → length s ≡ 0 → view_read s w first step count x y ≡ 0
-unfolding view_read
-empty_read s w first step count x y e = nothing s _ e
-
 zero_read : (x y : ℤ) → view_read (0 ∷ []) 1 0 1 1 x y ≡ 0
 unfolding view_read
 zero_read x y =

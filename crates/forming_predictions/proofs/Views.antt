@@ -1,12 +1,12 @@
 -- Laws of views: what lies in a plane, and that the view of a frame or field reads as docs/SCOPE.md says.
 -- Assumes nothing.
 use mathlib.Core.Path.{◌≡◌, refl, sym, ◌∙◌}
-use mathlib.Core.List.{List}
+use mathlib.Core.List.{List, [], ◌∷◌}
 use Prim.Native.Nat.{ℕ, zero, suc, ◌+◌, ◌*◌, ◌<◌}
 use native.Mathlib.Nat.{zero-mul, mul-zero, mul_comm, mul-le-mul_right, suc-mul}
 use native.Mathlib.Omega.{arith}
 use lib.IntN.{ℤ, pos}
-use lib.ListN.{length}
+use lib.ListN.{length, get_or}
 use borrow.Author.Tests.{ne_eqb}
 use Rattle.forming_predictions.specs.Lines.{Lines, frame, field, parity_row, field_lines, clamp_to, row_of, sample_at}
 use Rattle.forming_predictions.specs.inner.Views.{line_start, view_read, ViewFits, ReadsAs}
@@ -26,6 +26,21 @@ pub place_lt : {s : List ℕ} {w first step count : ℕ} (x y : ℤ) → ViewFit
     → line_start first step w (clamp_to count y) + clamp_to w x < length s
 place_lt {s} {w} {first} {step} {count} x y f =
     omega (arith, f.room (clamp_to count y) (clamp_lt count y f.lines), clamp_lt w x f.some)
+
+-- a view without samples reads 0
+nothing : (s : List ℕ) (k : ℕ) → length s ≡ 0 → get_or s k 0 ≡ 0
+nothing [] k e = refl
+nothing (a ∷ s) k e = absurd (omega arith)
+
+pub empty_read : (s : List ℕ) (w first step count : ℕ) (x y : ℤ) → length s ≡ 0 → view_read s w first step count x y ≡ 0
+unfolding view_read
+empty_read s w first step count x y e = nothing s _ e
+
+-- a plane that has columns and rows is read through a view of its lines
+pub sides_read : {l : Lines} {h first step count : ℕ} → ReadsAs l h first step count → (w : ℕ) (s : List ℕ) → 0 < w → 0 < h → (x y : ℤ)
+    → view_read s w first step count x y ≡ sample_at l w h s x y
+unfolding view_read sample_at
+sides_read {l} {h} f w s p q x y = rw (ne_eqb w 0 (λ e. omega (arith, p)), ne_eqb h 0 (λ e. omega (arith, q)), f.same y)
 
 -- the rows of a plane that has samples are a view
 module _ {l : Lines} {h first step count : ℕ} (f : ReadsAs l h first step count) {w : ℕ} (s : List ℕ) (p : PlaneRight w h (length s)) (e : 0 < length s) where
@@ -47,10 +62,9 @@ module _ {l : Lines} {h first step count : ℕ} (f : ReadsAs l h first step coun
 
   -- and it reads what the lines read
   pub rows_read : (x y : ℤ) → view_read s w first step count x y ≡ sample_at l w h s x y
-  unfolding view_read sample_at
   rows_read x y =
       let sides = sides_some w h (omega (arith, p.count)) in
-      rw (ne_eqb w 0 (λ e. omega (arith, sides.0)), ne_eqb h 0 (λ e. omega (arith, sides.1)), f.same y)
+      sides_read f w s sides.0 sides.1 x y
 
 -- a plane without samples samples 0
 pub no_sample : (l : Lines) (w h : ℕ) (s : List ℕ) (x y : ℤ) → w * h ≡ 0 → sample_at l w h s x y ≡ 0
@@ -58,6 +72,15 @@ unfolding sample_at
 no_sample l zero h s x y e = refl
 no_sample l (suc w) zero s x y e = rw (ne_eqb (suc w) 0 (λ e. omega arith))
 no_sample l (suc w) (suc h) s x y e = absurd (omega (arith, e, mul_comm (suc w) (suc h)))
+
+-- so that a plane of as many samples as its sides say, none among them, is read through a view of its lines
+pub plane_read : {l : Lines} {first step count : ℕ} (w h : ℕ) → ReadsAs l h first step count → (s : List ℕ) → length s ≡ w * h → (x y : ℤ)
+    → view_read s w first step count x y ≡ sample_at l w h s x y
+plane_read {l} {first} {step} {count} zero h f s e x y =
+    empty_read s zero first step count x y (e ∙ zero-mul h) ∙ sym (no_sample l zero h s x y (zero-mul h))
+plane_read {l} {first} {step} {count} (suc w) zero f s e x y =
+    empty_read s (suc w) first step count x y (e ∙ mul-zero (suc w)) ∙ sym (no_sample l (suc w) zero s x y (mul-zero (suc w)))
+plane_read (suc w) (suc h) f s e x y = sides_read f (suc w) s (omega arith) (omega arith) x y
 
 -- ---- the three views of a plane of h rows
 pub frame_reads : (h : ℕ) → ReadsAs frame h 0 1 h
